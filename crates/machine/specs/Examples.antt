@@ -1,0 +1,119 @@
+-- The programs of document 01's cases P3, P6, P9, P10 and P11, and a fault of each kind, with what their runs leave: one table, proved by computation.
+use mathlib.Core.Path.{_≡_, refl}
+use mathlib.Core.List.{List, [], _∷_, map}
+use Prim.Native.Nat.{ℕ}
+use lib.Bits.{bitAnd, bitOr, bitXor}
+use lib.Count.{onesIn}
+use lib.IntN.{ℤ, pos, negsuc}
+use Rattle.words.specs.Words.{patternOf, numberOf, wrap, floorDiv, onesOf}
+use Rattle.machine.specs.declared.Instruction.{Instruction}
+use Rattle.machine.specs.Settings.{Entry, entry, named, after}
+use Rattle.machine.specs.Instruction.{Program}
+use Rattle.machine.specs.Run.{effect, shiftRight, Fault, noSetting, readsWritten, writesTwice, enter, load, store, perform, step, Ending, completed, faulted, Outcome, runFrom, runProgram}
+
+-- settings that are not 0 at first, a program, and its outcome
+record Example : Type 0 where
+  settings : List Entry
+  program : Program
+  outcome : Outcome
+
+abbrev instruction : ℕ → ℕ → ℕ → ℕ → ℤ → Instruction
+instruction o x y z k = record { operation = o; a = x; b = y; c = z; n = k }
+
+abbrev example : List Entry → Program → List Entry → List Entry → Ending → Example
+example initial code rs ws end =
+    record { settings = initial; program = code; outcome = record { reads = rs; writes = ws; ending = end } }
+
+-- the instructions of these examples: ra = n, ra = setting n, setting n = ra
+abbrev constant : ℕ → ℤ → Instruction
+constant a n = instruction 1 a 0 0 n
+
+abbrev reading : ℕ → ℕ → Instruction
+reading a s = instruction 11 a 0 0 (pos s)
+
+abbrev writing : ℕ → ℕ → Instruction
+writing s a = instruction 13 a 0 0 (pos s)
+
+-- P3: copies 34 to 50
+copies : Example
+copies = example (entry 34 (pos 7) ∷ []) (reading 0 34 ∷ writing 50 0 ∷ []) (entry 34 (pos 7) ∷ []) (entry 50 (pos 7) ∷ []) completed
+
+-- P6: adds 1 to 34
+adds : Example
+adds =
+    example (entry 34 (pos 7) ∷ [])
+    (reading 0 34 ∷ constant 1 (pos 1) ∷ instruction 3 0 0 1 (pos 0) ∷ writing 34 0 ∷ [])
+    (entry 34 (pos 7) ∷ []) (entry 34 (pos 8) ∷ []) completed
+
+-- P9: writes 34 twice, and so writes nothing
+writes-twice : Example
+writes-twice = example [] (constant 0 (pos 5) ∷ writing 34 0 ∷ writing 34 0 ∷ []) [] [] (faulted writesTwice 2)
+
+-- P10: −2,147,483,648 negated; 2,147,483,647 + 1; −5 by operation 6 with n = 1; the ones of −1
+extremes : Example
+extremes =
+    example []
+    (constant 0 (negsuc 2147483647)
+    ∷ instruction 5 1 0 0 (pos 0)
+    ∷ writing 0 1
+    ∷ constant 0 (pos 2147483647)
+    ∷ constant 1 (pos 1)
+    ∷ instruction 3 2 0 1 (pos 0)
+    ∷ writing 1 2
+    ∷ constant 0 (negsuc 4)
+    ∷ instruction 6 1 0 0 (pos 1)
+    ∷ writing 2 1
+    ∷ constant 0 (negsuc 0)
+    ∷ instruction 7 1 0 0 (pos 0)
+    ∷ writing 3 1
+    ∷ []) []
+    (entry 0 (negsuc 2147483647) ∷ entry 1 (negsuc 2147483647) ∷ entry 2 (negsuc 2) ∷ entry 3 (pos 32) ∷ [])
+    completed
+
+-- P11: takes 300 from 36, and sets 37 to 1 if that is negative, else to 0
+draw : Program
+draw =
+    reading 0 36
+    ∷ constant 1 (pos 300)
+    ∷ instruction 4 2 0 1 (pos 0)
+    ∷ writing 36 2
+    ∷ instruction 15 0 2 0 (pos 1)
+    ∷ instruction 17 0 0 0 (pos 1)
+    ∷ constant 3 (pos 1)
+    ∷ writing 37 3
+    ∷ []
+
+draws : Example
+draws = example (entry 36 (pos 400) ∷ []) draw (entry 36 (pos 400) ∷ []) (entry 36 (pos 100) ∷ entry 37 (pos 0) ∷ []) completed
+
+overdraws : Example
+overdraws = example (entry 36 (pos 200) ∷ []) draw (entry 36 (pos 200) ∷ []) (entry 36 (negsuc 99) ∷ entry 37 (pos 1) ∷ []) completed
+
+-- a fault keeps the earlier reads: 34 is read, 40 is written, then 40 is read
+reads-written : Example
+reads-written =
+    example (entry 34 (pos 7) ∷ []) (reading 0 34 ∷ writing 40 0 ∷ reading 1 40 ∷ []) (entry 34 (pos 7) ∷ []) [] (faulted readsWritten 2)
+
+-- register 0 holds 1,024, which is no setting
+leaves-settings : Example
+leaves-settings = example [] (constant 0 (pos 1024) ∷ instruction 12 1 0 0 (pos 0) ∷ []) [] [] (faulted noSetting 1)
+
+-- 34 is read twice and stands in the read list once; what follows the stop is not run
+stops-early : Example
+stops-early =
+    example (entry 34 (pos 7) ∷ []) (reading 0 34 ∷ reading 1 34 ∷ writing 50 1 ∷ instruction 0 0 0 0 (pos 0) ∷ writing 51 1 ∷ [])
+    (entry 34 (pos 7) ∷ []) (entry 50 (pos 7) ∷ []) completed
+
+examples : List Example
+examples =
+    copies ∷ adds ∷ writes-twice ∷ extremes ∷ draws ∷ overdraws ∷ reads-written ∷ leaves-settings ∷ stops-early ∷ []
+
+ran : Example → Outcome
+ran e = runProgram (after (e .settings) (λ s. pos 0)) (e .program)
+
+expected : Example → Outcome
+expected e = e .outcome
+
+examples-hold : map ran examples ≡ map expected examples
+unfolding examples copies adds writes-twice extremes draw draws overdraws reads-written leaves-settings stops-early ran expected runProgram runFrom step perform effect load store enter named after shiftRight patternOf numberOf wrap floorDiv onesOf onesIn
+examples-hold = refl
