@@ -1,14 +1,17 @@
--- The programs of document 01's cases P3, P6, P9, P10 and P11, and a fault of each kind, with what their runs leave: one table, proved by computation.
+-- Worked programs: those of document 01's cases P3, P6, P9, P10 and P11, a fault of each kind, and the bounds of the form test. Each table is proved by computation.
 use mathlib.Core.Path.{_≡_, refl}
-use mathlib.Core.List.{List, [], _∷_, map}
+use mathlib.Core.Bool.{Bool, true, false, _&&_}
+use mathlib.Core.List.{List, [], _∷_, _++_, map}
 use Prim.Native.Nat.{ℕ}
 use lib.Bits.{bitAnd, bitOr, bitXor}
 use lib.Count.{onesIn}
 use lib.IntN.{ℤ, pos, negsuc}
+use lib.ListN.{replicate}
 use Rattle.words.specs.Words.{patternOf, numberOf, wrap, floorDiv, onesOf}
 use Rattle.machine.specs.declared.Instruction.{Instruction}
 use Rattle.machine.specs.Settings.{Entry, entry, named, after}
-use Rattle.machine.specs.Instruction.{Program}
+use Rattle.machine.specs.Instruction.{Program, instructionAt, instructionsFrom, programOf}
+use Rattle.machine.specs.Form.{isWellFormed, allBelow, lengthFits, wellFormed}
 use Rattle.machine.specs.Run.{effect, shiftRight, Fault, noSetting, readsWritten, writesTwice, enter, load, store, perform, step, Ending, completed, faulted, Outcome, runFrom, runProgram}
 
 -- settings that are not 0 at first, a program, and its outcome
@@ -117,3 +120,71 @@ expected e = e .outcome
 examples-hold : map ran examples ≡ map expected examples
 unfolding examples copies adds writes-twice extremes draw draws overdraws reads-written leaves-settings stops-early ran expected runProgram runFrom step perform effect load store enter named after shiftRight patternOf numberOf wrap floorDiv onesOf onesIn
 examples-hold = refl
+
+-- ---- bytes
+
+-- ra = −5; setting 1,023 = ra
+decoded : programOf (1 ∷ 7 ∷ 0 ∷ 0 ∷ 251 ∷ 255 ∷ 255 ∷ 255 ∷ 13 ∷ 7 ∷ 0 ∷ 0 ∷ 255 ∷ 3 ∷ 0 ∷ 0 ∷ []) ≡ constant 7 (negsuc 4) ∷ writing 1023 7 ∷ []
+unfolding programOf instructionsFrom instructionAt numberOf
+decoded = refl
+
+-- ---- the form test
+
+-- an instruction at place 1 of a program of 4, and whether it is well formed there
+record Form : Type 0 where
+  instruction : Instruction
+  accepted : Bool
+
+abbrev form : ℕ → ℕ → ℕ → ℕ → ℤ → Bool → Form
+form o x y z k answer = record { instruction = instruction o x y z k; accepted = answer }
+
+-- the ends of each range: registers, n, unused parts, the operations themselves
+forms : List Form
+forms =
+    form 0 0 0 0 (pos 0) true
+    ∷ form 0 1 0 0 (pos 0) false
+    ∷ form 0 0 0 0 (pos 1) false
+    ∷ form 1 7 0 0 (negsuc 2147483647) true
+    ∷ form 1 8 0 0 (pos 0) false
+    ∷ form 1 0 1 0 (pos 0) false
+    ∷ form 2 7 7 0 (pos 0) true
+    ∷ form 2 0 8 0 (pos 0) false
+    ∷ form 2 0 0 0 (negsuc 0) false
+    ∷ form 3 7 7 7 (pos 0) true
+    ∷ form 4 0 0 8 (pos 0) false
+    ∷ form 5 0 0 1 (pos 0) false
+    ∷ form 6 0 0 0 (pos 31) true
+    ∷ form 6 0 0 0 (pos 32) false
+    ∷ form 6 0 0 0 (negsuc 0) false
+    ∷ form 11 0 0 0 (pos 1023) true
+    ∷ form 11 0 0 0 (pos 1024) false
+    ∷ form 13 0 0 0 (negsuc 0) false
+    ∷ form 14 7 7 0 (pos 0) true
+    ∷ form 15 0 7 0 (pos 2) true
+    ∷ form 15 1 7 0 (pos 2) false
+    ∷ form 16 0 0 0 (pos 3) false
+    ∷ form 17 0 0 0 (pos 2) true
+    ∷ form 17 0 0 0 (pos 3) false
+    ∷ form 17 0 0 0 (negsuc 0) false
+    ∷ form 18 0 0 0 (pos 0) false
+    ∷ []
+
+tested : Form → Bool
+tested f = isWellFormed 4 1 (f .instruction)
+
+answer : Form → Bool
+answer f = f .accepted
+
+forms-hold : map tested forms ≡ map answer forms
+unfolding forms tested answer isWellFormed
+forms-hold = refl
+
+-- refusal 6: 256 bytes, none and 8 are accepted, 264 and 7 are not
+lengths-hold : map (λ k. lengthFits (replicate k 0)) (0 ∷ 7 ∷ 8 ∷ 256 ∷ 264 ∷ []) ≡ (true ∷ false ∷ true ∷ true ∷ false ∷ [])
+unfolding lengthFits
+lengths-hold = refl
+
+-- refusal 7 tests every instruction, reached or not: behind a stop stands an operation that is none
+unreached : wellFormed (replicate 8 0 ++ (18 ∷ replicate 7 0)) ≡ false
+unfolding wellFormed allBelow isWellFormed instructionAt numberOf
+unreached = refl
