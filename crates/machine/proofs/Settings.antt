@@ -1,6 +1,7 @@
 -- Laws of environments and of lists of entries.
 use mathlib.Core.Path.{_≡_, refl, sym, ap, _∙_}
 use mathlib.Core.Bool.{Bool, true, false, cond}
+use mathlib.Core.Option.{Option, none, some}
 use mathlib.Core.List.{List, [], _∷_, _++_}
 use Prim.Native.Nat.{ℕ, zero, suc, _≤_, _<_}
 use native.Mathlib.Omega.{arith}
@@ -9,24 +10,44 @@ use lib.Dec.{eqb}
 use lib.IntN.{ℤ, pos}
 use lib.ListN.{length, getD, set, length-set}
 use lib.Seq.{getD-set-same, getD-set-other}
-use Rattle.machine.specs.Settings.{settingCount, Environment, valueIn, Entry, entry, named, entries, Holds, Distinct, update, after, carry}
+use Rattle.machine.specs.Settings.{settingCount, Environment, valueIn, Entry, entry, named, entries, _orIf_, _orElse_, isSome, lookup, Holds, Distinct, after, carry}
 use Rattle.machine.proofs.Cases.{true-is-not-false}
 
 -- ---- carrying writes
 
--- what a setting becomes depends on its own value alone
-after-same : (writes : List Entry) (env env' : Environment) (s : ℕ) → env s ≡ env' s → after writes env s ≡ after writes env' s
-unfolding after
-after-same [] env env' s h = h
-after-same (e ∷ writes) env env' s h = after-same writes (update e env) (update e env') s (ap (cond (eqb (e .setting) s) (e .value)) h)
+or-if-else : (x y : Option ℤ) (d : ℤ) → ((x orIf y) orElse d) ≡ (x orElse (y orElse d))
+or-if-else none y d = refl
+or-if-else (some v) y d = refl
+
+-- the first entry of a write list carried in before the others
+pub after-first : (e : Entry) (writes : List Entry) (env : Environment) (s : ℕ) → after (e ∷ writes) env s ≡ after writes (λ t. cond (eqb (e .setting) t) (e .value) (env t)) s
+unfolding lookup
+after-first e writes env s = or-if-else (lookup writes s) _ (env s) ∙ ap (λ v. lookup writes s orElse v) (go (eqb (e .setting) s))
+  where
+    go : (t : Bool) → ((cond t (some (e .value)) none) orElse env s) ≡ cond t (e .value) (env s)
+    go true = refl
+    go false = refl
+
+-- a setting is given a value where the list names it
+pub lookup-named : (l : List Entry) (s : ℕ) → isSome (lookup l s) ≡ named s l
+unfolding lookup named
+lookup-named [] s = refl
+lookup-named (e ∷ l) s = go (lookup l s) (lookup-named l s) (eqb (e .setting) s)
+  where
+    go : (x : Option ℤ) → isSome x ≡ named s l → (t : Bool) → isSome (x orIf cond t (some (e .value)) none) ≡ cond t true (named s l)
+    go none h true = refl
+    go none h false = h
+    go (some v) h true = refl
+    go (some v) h false = h
 
 -- carrying a write list into a list of values carries it into the environment that the list gives
 pub carry-after : (writes : List Entry) (values : List ℤ) (s : ℕ) → s < length values → valueIn (carry writes values) s ≡ after writes (valueIn values) s
-unfolding carry after
+unfolding carry lookup
 carry-after [] values s h = refl
 carry-after (e ∷ writes) values s h =
     carry-after writes (set values (e .setting) (e .value)) s (rw length-set h)
-    ∙ after-same writes (valueIn (set values (e .setting) (e .value))) (update e (valueIn values)) s (set-one (eqb (e .setting) s) refl)
+    ∙ ap (λ v. lookup writes s orElse v) (set-one (eqb (e .setting) s) refl)
+    ∙ sym (after-first e writes (valueIn values) s)
   where
     set-one : (t : Bool) → eqb (e .setting) s ≡ t → valueIn (set values (e .setting) (e .value)) s ≡ cond t (e .value) (valueIn values s)
     set-one true q =

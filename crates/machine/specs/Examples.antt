@@ -9,7 +9,7 @@ use lib.IntN.{ℤ, pos, negsuc}
 use lib.ListN.{replicate}
 use Rattle.words.specs.Words.{patternOf, numberOf, wrap, floorDiv, onesOf}
 use Rattle.machine.specs.declared.Instruction.{Instruction}
-use Rattle.machine.specs.Settings.{Entry, entry, named, after}
+use Rattle.machine.specs.Settings.{Entry, entry, named, lookup, after}
 use Rattle.machine.specs.Instruction.{Program, instructionAt, instructionsFrom, programOf}
 use Rattle.machine.specs.Form.{isWellFormed, allBelow, lengthFits, wellFormed}
 use Rattle.machine.specs.Run.{effect, shiftRight, Fault, noSetting, readsWritten, writesTwice, enter, load, store, perform, step, Ending, completed, faulted, Outcome, runFrom, runProgram}
@@ -118,7 +118,7 @@ expected : Example → Outcome
 expected e = e .outcome
 
 examples-hold : map ran examples ≡ map expected examples
-unfolding examples copies adds writes-twice extremes draw draws overdraws reads-written leaves-settings stops-early ran expected runProgram runFrom step perform effect load store enter named after shiftRight patternOf numberOf wrap floorDiv onesOf onesIn
+unfolding examples copies adds writes-twice extremes draw draws overdraws reads-written leaves-settings stops-early ran expected runProgram runFrom step perform effect load store enter named lookup shiftRight patternOf numberOf wrap floorDiv onesOf onesIn
 examples-hold = refl
 
 -- ---- bytes

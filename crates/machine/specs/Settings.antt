@@ -1,6 +1,7 @@
 -- Settings, their values, and lists of settings with values (document 01, "Settings and stamps").
 use mathlib.Core.Bool.{Bool, true, false, cond}
 use mathlib.Core.List.{List, [], _∷_}
+use mathlib.Core.Option.{Option, none, some}
 use mathlib.Core.Path.{_≡_}
 use Prim.Native.Nat.{ℕ, zero, suc, _≤_, _<_}
 use lib.Dec.{eqb}
@@ -26,6 +27,20 @@ pub record Entry : Type 0 where
 
 abbrev pub entry : ℕ → ℤ → Entry
 entry s v = record { setting = s; value = v }
+
+-- the first of two that is there
+infixr 20 _orIf_ _orElse_
+abbrev pub _orIf_ : Option ℤ → Option ℤ → Option ℤ
+none orIf y = y
+some v orIf y = some v
+
+abbrev pub _orElse_ : Option ℤ → ℤ → ℤ
+none orElse d = d
+some v orElse d = v
+
+abbrev pub isSome : Option ℤ → Bool
+isSome none = false
+isSome (some v) = true
 
 -- does a list of entries name the setting
 unfoldable pub named : ℕ → List Entry → Bool
@@ -54,16 +69,16 @@ pub record Bounded (l : List Entry) : Type 0 where
   pub short : length l ≤ 32
   pub distinct : Distinct l
 
--- the environment with one setting set
-abbrev pub update : Entry → Environment → Environment
-update e env s = cond (eqb (e .setting) s) (e .value) (env s)
+-- the value that a list gives a setting: that of the last entry that names it
+unfoldable pub lookup : List Entry → ℕ → Option ℤ
+lookup [] s = none
+lookup (e ∷ l) s = lookup l s orIf (cond (eqb (e .setting) s) (some (e .value)) none)
 
--- the environment after a write list is carried into it, entry by entry
-unfoldable pub after : List Entry → Environment → Environment
-after [] env = env
-after (e ∷ writes) env = after writes (update e env)
+-- the environment after a write list is carried into it
+abbrev pub after : List Entry → Environment → Environment
+after writes env s = lookup writes s orElse env s
 
--- the same on a list of values
+-- a write list carried into a list of values, entry by entry
 unfoldable pub carry : List Entry → List ℤ → List ℤ
 carry [] values = values
 carry (e ∷ writes) values = carry writes (set values (e .setting) (e .value))
