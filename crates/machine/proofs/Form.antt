@@ -7,7 +7,6 @@ use native.Mathlib.Decide.{decLt}
 use native.Mathlib.Omega.{arith}
 use borrow.Author.Tests.{ltb-true, leb-true}
 use lib.Dec.{ltb, leb}
-use lib.IntN.{ℤ}
 use lib.ListN.{getD, drop, List·getD-eq-default}
 use lib.Seq.{getD-drop}
 use Rattle.machine.specs.declared.Instruction.{Instruction}

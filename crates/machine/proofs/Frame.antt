@@ -1,13 +1,11 @@
 -- A run is determined by what it read: it saw what the environment holds, and on an environment that holds the same it is the same run.
-use mathlib.Core.Path.{_≡_, refl, sym, ap, _∙_}
-use mathlib.Core.Bool.{Bool, true, false, cond}
-use mathlib.Core.List.{List, [], _∷_, _++_}
+use mathlib.Core.Path.{_≡_, refl, ap, _∙_}
+use mathlib.Core.List.{List, [], _∷_}
 use Prim.Native.Nat.{ℕ, suc, zero}
-use lib.IntN.{ℤ, natAbs}
+use lib.IntN.{natAbs}
 use lib.ListN.{set}
 use Rattle.machine.specs.declared.Effect.{Effect}
 use Rattle.machine.specs.declared.Effect.the-variants.{Halt, Assign, Load, Store, Skip}
-use Rattle.machine.specs.declared.Instruction.{Instruction}
 use Rattle.machine.specs.Settings.{settingCount, Environment, Entry, entry, named, Holds}
 use Rattle.machine.specs.Instruction.{Program, programOf}
 use Rattle.machine.specs.Form.{isBelow}

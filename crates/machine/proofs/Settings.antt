@@ -3,14 +3,13 @@ use mathlib.Core.Path.{_≡_, refl, sym, ap, _∙_}
 use mathlib.Core.Bool.{Bool, true, false, cond}
 use mathlib.Core.Option.{Option, none, some}
 use mathlib.Core.List.{List, [], _∷_, _++_}
-use Prim.Native.Nat.{ℕ, zero, suc, _≤_, _<_}
-use native.Mathlib.Omega.{arith}
+use Prim.Native.Nat.{ℕ, _<_}
 use borrow.Author.Tests.{eqb-true, eqb-false, ne-eqb}
 use lib.Dec.{eqb}
 use lib.IntN.{ℤ, pos}
-use lib.ListN.{length, getD, set, length-set}
+use lib.ListN.{length, set, length-set}
 use lib.Seq.{getD-set-same, getD-set-other}
-use Rattle.machine.specs.Settings.{settingCount, Environment, valueIn, Entry, entry, named, entries, _orIf_, _orElse_, isSome, lookup, Holds, Distinct, after, carry}
+use Rattle.machine.specs.Settings.{settingCount, Environment, valueIn, Entry, entry, named, _orIf_, _orElse_, isSome, lookup, Holds, Distinct, after, carry}
 use Rattle.machine.proofs.Cases.{true-is-not-false}
 
 -- ---- carrying writes

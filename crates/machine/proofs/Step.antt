@@ -1,12 +1,12 @@
 -- A step depends on the environment at one setting.
-use mathlib.Core.Path.{_≡_, refl, ap}
+use mathlib.Core.Path.{_≡_, refl}
 use mathlib.Core.Bool.{Bool, true, false, cond}
 use lib.IntN.{ℤ, natAbs}
 use Rattle.machine.specs.declared.Effect.{Effect}
 use Rattle.machine.specs.declared.Effect.the-variants.{Halt, Assign, Load, Store, Skip}
 use Rattle.machine.specs.Settings.{Environment, settingCount}
 use Rattle.machine.specs.Form.{isBelow}
-use Rattle.machine.specs.Run.{State, Next, faults, noSetting, load, perform, wanted}
+use Rattle.machine.specs.Run.{State, faults, noSetting, load, perform, wanted}
 
 -- the environment that has one value everywhere
 abbrev pub everywhere : ℤ → Environment

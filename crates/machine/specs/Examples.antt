@@ -1,9 +1,8 @@
 -- Worked programs: those of document 01's cases P3, P6, P9, P10 and P11, a fault of each kind, and the bounds of the form test. Each table is proved by computation.
 use mathlib.Core.Path.{_≡_, refl}
-use mathlib.Core.Bool.{Bool, true, false, _&&_}
+use mathlib.Core.Bool.{Bool, true, false}
 use mathlib.Core.List.{List, [], _∷_, _++_, map}
 use Prim.Native.Nat.{ℕ}
-use lib.Bits.{bitAnd, bitOr, bitXor}
 use lib.Count.{onesIn}
 use lib.IntN.{ℤ, pos, negsuc}
 use lib.ListN.{replicate}
@@ -12,7 +11,7 @@ use Rattle.machine.specs.declared.Instruction.{Instruction}
 use Rattle.machine.specs.Settings.{Entry, entry, named, lookup, after}
 use Rattle.machine.specs.Instruction.{Program, instructionAt, instructionsFrom, programOf}
 use Rattle.machine.specs.Form.{isWellFormed, allBelow, lengthFits, wellFormed}
-use Rattle.machine.specs.Run.{effect, shiftRight, Fault, noSetting, readsWritten, writesTwice, enter, load, store, perform, step, Ending, completed, faulted, Outcome, runFrom, runProgram}
+use Rattle.machine.specs.Run.{effect, shiftRight, noSetting, readsWritten, writesTwice, enter, load, store, perform, step, Ending, completed, faulted, Outcome, runFrom, runProgram}
 
 -- settings that are not 0 at first, a program, and its outcome
 record Example : Type 0 where

@@ -1,10 +1,9 @@
 -- The run of a program on an environment (document 01, "Instructions of a change").
-use mathlib.Core.Bool.{Bool, true, false, cond}
+use mathlib.Core.Bool.{cond}
 use mathlib.Core.List.{List, [], _∷_, _++_}
 use Prim.Native.Nat.{ℕ, zero, suc, _^_}
 use lib.Bits.{bitAnd, bitOr, bitXor}
-use lib.Dec.{ltb}
-use lib.IntN.{ℤ, pos, negsuc, _+ℤ_, _-ℤ_, negℤ, natAbs}
+use lib.IntN.{ℤ, pos, _+ℤ_, _-ℤ_, negℤ, natAbs}
 use lib.ListN.{getD, set, replicate}
 use lib.Signed.{ltZ}
 use Rattle.words.specs.Words.{patternOf, numberOf, wrap, floorDiv, onesOf, isZero}
