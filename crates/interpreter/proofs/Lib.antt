@@ -1,0 +1,6 @@
+pub mod Bounds
+pub mod Numbers
+pub mod Registers
+pub mod Entries
+pub mod Steps
+pub mod Loop

@@ -1,0 +1,260 @@
+-- Tables of the right lengths that pass every test of form hold a sound cabinet, and are its layout.
+use mathlib.Core.Path.{_≡_, refl, sym, ap, ap₂, _∙_}
+use mathlib.Core.Bool.{true}
+use mathlib.Core.List.{List, [], _∷_}
+use Prim.Native.Nat.{ℕ, zero, suc, _-_, _*_, _/_, _%_, _≤_, _<_}
+use native.Mathlib.Omega.{arith}
+use borrow.Author.Tests.{le-leb, eq-eqb}
+use lib.IntN.{ℤ, pos}
+use lib.ListN.{length, getD, take, drop, replicate, length-drop}
+use lib.Seq.{length-take-le, getD-take}
+use Rattle.machine.specs.Settings.{Entry, entries, Bounded}
+use Rattle.machine.specs.Form.{lengthFits}
+use Rattle.model.specs.History.{New, Change, timestamp, program, status, withdrawn, lists, tabulate}
+use Rattle.model.specs.Cabinet.{blank, historyOf}
+use Rattle.model.specs.Tables.{Tables, statusNumber, statusOf, flagNumber, flagOf, pad, column, blocks, settingsOf, valuesOf, encode, heldCount, slots, programAt, readsAt, writesAt, changeAt, decode}
+use Rattle.model.specs.Form.{allZero, allZeroZ, restOf, distinctSettings}
+use Rattle.model.specs.Sound.{Rising, ChangeSound, Below, Placed, Sound}
+use Rattle.model.proofs.Tabulate.{length-tabulate, getD-tabulate}
+use Rattle.model.proofs.Blocks.{pad-is, column-is, blocks-is, slots-room, slots-length, restOf-length, slots-pad}
+use Rattle.model.proofs.Entries.{settings-entries, values-entries, length-entries, distinct-of}
+use Rattle.model.proofs.Tests.{zeros, zerosZ, Lengths, Listed, FormTests}
+use Rattle.model.proofs.Order.{changesAt-length, changesAt-get, rising-of, rising-distinct, below-of, all-places}
+use Rattle.model.proofs.Tables.{all-sound}
+
+-- ---- a list of entries
+
+abbrev listAt : List ℕ → List ℕ → List ℤ → ℕ → List Entry
+listAt counts settings values i = entries (getD counts i 0) (drop (32 * i) settings) (drop (32 * i) values)
+
+module _ (n : ℕ) (counts settings : List ℕ) (values : List ℤ) (es : length settings ≡ 32 * n) (ev : length values ≡ 32 * n) (i : ℕ) (h : i < n) (l : Listed counts settings values i) where
+  settings-room : getD counts i 0 ≤ length (drop (32 * i) settings)
+  settings-room = slots-room n 32 i (getD counts i 0) settings es h (l .short)
+
+  values-room : getD counts i 0 ≤ length (drop (32 * i) values)
+  values-room = slots-room n 32 i (getD counts i 0) values ev h (l .short)
+
+  list-length : length (listAt counts settings values i) ≡ getD counts i 0
+  list-length = length-entries (getD counts i 0) _ _ settings-room values-room
+
+  list-settings : settingsOf (listAt counts settings values i) ≡ slots 32 i (getD counts i 0) settings
+  list-settings = settings-entries (getD counts i 0) _ _ values-room
+
+  list-values : valuesOf (listAt counts settings values i) ≡ slots 32 i (getD counts i 0) values
+  list-values = values-entries (getD counts i 0) _ _ settings-room
+
+  list-bounded : Bounded (listAt counts settings values i)
+  list-bounded = record { short = omega (arith, list-length, l .short); distinct = distinct-of _ (ap distinctSettings list-settings ∙ l .distinct) }
+
+  settings-block : slots 32 i 32 settings ≡ pad 32 0 (settingsOf (listAt counts settings values i))
+  settings-block =
+      let k = getD counts i 0 in
+      slots-pad n 32 i k settings es h (l .short) 0 (zeros (restOf 32 i k settings) (32 - k) (restOf-length n 32 i k settings es h (l .short)) (l .settings-rest))
+      ∙ ap (pad 32 0) (sym list-settings)
+
+  values-block : slots 32 i 32 values ≡ pad 32 (pos 0) (valuesOf (listAt counts settings values i))
+  values-block =
+      let k = getD counts i 0 in
+      slots-pad n 32 i k values ev h (l .short) (pos 0) (zerosZ (restOf 32 i k values) (32 - k) (restOf-length n 32 i k values ev h (l .short)) (l .values-rest))
+      ∙ ap (pad 32 (pos 0)) (sym list-values)
+
+-- an empty list
+list-empty : (counts settings : List ℕ) (values : List ℤ) (i : ℕ) → getD counts i 0 ≡ 0 → listAt counts settings values i ≡ []
+unfolding entries
+list-empty counts settings values i e = ap (λ (k : ℕ). entries k (drop (32 * i) settings) (drop (32 * i) values)) e
+
+-- ---- a place
+
+status-known : (s : ℕ) → s ≤ 2 → statusNumber (statusOf s) ≡ s
+status-known zero h = refl
+status-known (suc zero) h = refl
+status-known (suc (suc zero)) h = refl
+status-known (suc (suc (suc s))) h = absurd (omega arith)
+
+flag-known : (w : ℕ) → w ≤ 1 → flagNumber (flagOf w) ≡ w
+flag-known zero h = refl
+flag-known (suc zero) h = refl
+flag-known (suc (suc w)) h = absurd (omega arith)
+
+status-new : (s : ℕ) → statusOf s ≡ New → s ≡ 0
+status-new zero e = refl
+status-new (suc zero) e = ap statusNumber e
+status-new (suc (suc s)) e = absurd (let z : 2 ≡ 0 = ap statusNumber e in omega arith)
+
+module _ (n : ℕ) (T : Tables) (g : Lengths n T) (f : FormTests n T) (i : ℕ) (h : i < heldCount T) where
+  within : i < n
+  within = omega (arith, f .small)
+
+  program-short : 8 * getD (T .lengths) i 0 ≤ 256
+  program-short = omega (arith, f .programs i h .short)
+
+  program-length : length (programAt T i) ≡ 8 * getD (T .lengths) i 0
+  program-length = slots-length n 256 i (8 * getD (T .lengths) i 0) (T .programs) (g .programs) within program-short
+
+  program-block : slots 256 i 256 (T .programs) ≡ pad 256 0 (programAt T i)
+  program-block =
+      let k = 8 * getD (T .lengths) i 0 in
+      slots-pad n 256 i k (T .programs) (g .programs) within program-short 0
+      (zeros (restOf 256 i k (T .programs)) (256 - k) (restOf-length n 256 i k (T .programs) (g .programs) within program-short) (f .programs i h .rest))
+
+  reads-length : length (readsAt T i) ≡ getD (T .reads) i 0
+  reads-length = list-length n (T .reads) (T .sources) (T .seen) (g .sources) (g .seen) i within (f .reads i h)
+
+  sources-block : slots 32 i 32 (T .sources) ≡ pad 32 0 (settingsOf (readsAt T i))
+  sources-block = settings-block n (T .reads) (T .sources) (T .seen) (g .sources) (g .seen) i within (f .reads i h)
+
+  seen-block : slots 32 i 32 (T .seen) ≡ pad 32 (pos 0) (valuesOf (readsAt T i))
+  seen-block = values-block n (T .reads) (T .sources) (T .seen) (g .sources) (g .seen) i within (f .reads i h)
+
+  writes-length : length (writesAt T i) ≡ getD (T .writes) i 0
+  writes-length = list-length n (T .writes) (T .targets) (T .written) (g .targets) (g .written) i within (f .writes i h)
+
+  targets-block : slots 32 i 32 (T .targets) ≡ pad 32 0 (settingsOf (writesAt T i))
+  targets-block = settings-block n (T .writes) (T .targets) (T .written) (g .targets) (g .written) i within (f .writes i h)
+
+  written-block : slots 32 i 32 (T .written) ≡ pad 32 (pos 0) (valuesOf (writesAt T i))
+  written-block = values-block n (T .writes) (T .targets) (T .written) (g .targets) (g .written) i within (f .writes i h)
+
+  change-sound : ChangeSound (changeAt T i)
+  unfolding lengthFits
+  change-sound =
+      record {
+        above = f .heads i h .above;
+        below = f .heads i h .below;
+        sized = rw (program-length, le-leb _ _ program-short, eq-eqb (8 * getD (T .lengths) i 0 % 8) 0 (omega arith));
+        formed = f .programs i h .formed;
+        reads = list-bounded n (T .reads) (T .sources) (T .seen) (g .sources) (g .seen) i within (f .reads i h);
+        writes = list-bounded n (T .writes) (T .targets) (T .written) (g .targets) (g .written) i within (f .writes i h);
+        new =
+            λ e.
+            let none = f .heads i h .new (status-new (getD (T .status) i 0) e) in
+            ap₂ (λ (r w : List Entry). record { reads = r; writes = w }) (list-empty (T .reads) (T .sources) (T .seen) i (none .0)) (list-empty (T .writes) (T .targets) (T .written) i (none .1));
+      }
+
+-- ---- the cabinet
+
+one-slot : (l : List ℕ) → length l ≡ 1 → getD l 0 0 ∷ [] ≡ l
+one-slot [] e = absurd (omega arith)
+one-slot (x ∷ []) e = refl
+one-slot (x ∷ y ∷ l) e = absurd (omega arith)
+
+zeros-from : (l : List ℕ) (n k : ℕ) → length l ≡ n → allZero (drop k l) ≡ true → drop k l ≡ replicate (n - k) 0
+zeros-from l n k e z = zeros (drop k l) (n - k) (length-drop k l ∙ ap (_- k) e) z
+
+zerosZ-from : (l : List ℤ) (n k : ℕ) → length l ≡ n → allZeroZ (drop k l) ≡ true → drop k l ≡ replicate (n - k) (pos 0)
+zerosZ-from l n k e z = zerosZ (drop k l) (n - k) (length-drop k l ∙ ap (_- k) e) z
+
+abbrev heldChanges : Tables → List Change
+heldChanges T = tabulate (heldCount T) (changeAt T)
+
+module _ (n : ℕ) (T : Tables) (g : Lengths n T) (f : FormTests n T) where
+  held-length : length (heldChanges T) ≡ heldCount T
+  held-length = length-tabulate (heldCount T) (changeAt T)
+
+  held-get : (i : ℕ) → i < heldCount T → getD (heldChanges T) i blank ≡ changeAt T i
+  held-get i h = getD-tabulate (heldCount T) (changeAt T) i blank h
+
+  order-length : length (take (heldCount T) (T .order)) ≡ heldCount T
+  order-length = length-take-le (heldCount T) (T .order) (omega (arith, g .order, f .small))
+
+  order-get : (k : ℕ) → k < heldCount T → getD (take (heldCount T) (T .order)) k 0 ≡ getD (T .order) k 0
+  order-get k h = getD-take (heldCount T) (T .order) k 0 h
+
+  history-length : length (historyOf (decode T)) ≡ heldCount T
+  unfolding decode
+  history-length = changesAt-length (heldChanges T) (take (heldCount T) (T .order)) ∙ order-length
+
+  history-get : (k : ℕ) → k < heldCount T → getD (historyOf (decode T)) k blank ≡ changeAt T (getD (T .order) k 0)
+  unfolding decode
+  history-get k h =
+      changesAt-get (heldChanges T) (take (heldCount T) (T .order)) k (rw order-length h)
+      ∙ ap (λ (i : ℕ). getD (heldChanges T) i blank) (order-get k h)
+      ∙ held-get (getD (T .order) k 0) (f .places k h)
+
+  history-rising : Rising 0 (historyOf (decode T))
+  history-rising =
+      rising-of (historyOf (decode T)) 0
+      (λ h. let h' : 0 < heldCount T = rw history-length at h in rw (history-get 0 h') (f .heads (getD (T .order) 0 0) (f .places 0 h') .above))
+      (λ k h. let h' : k < heldCount T = rw history-length at h in rw (history-get k h') (f .heads (getD (T .order) k 0) (f .places k h') .below))
+      (λ k h. let h' : suc k < heldCount T = rw history-length at h in rw (history-get k (omega arith), history-get (suc k) h') (f .rising k h'))
+
+  decode-placed : Placed (decode T)
+  unfolding decode
+  decode-placed =
+      let order = take (heldCount T) (T .order) in
+      let distinct = rising-distinct (heldChanges T) order 0 history-rising in
+      let below : Below (heldCount T) order = below-of (heldCount T) order (λ k h. let h' : k < heldCount T = rw order-length at h in rw (order-get k h') (f .places k h')) in
+      record {
+        counted = order-length ∙ sym held-length;
+        below = rw held-length below;
+        distinct = distinct;
+        covers = λ i h. all-places (heldCount T) order distinct below order-length i (rw held-length at h);
+      }
+
+  pub sound-decode : Sound n (decode T)
+  unfolding decode
+  sound-decode =
+      record {
+        some-capacity = g .some-capacity;
+        capacity = g .capacity;
+        small = rw held-length (f .small);
+        each = all-sound (heldChanges T) (λ i h. let h' : i < heldCount T = rw held-length at h in rw (held-get i h') (change-sound n T g f i h'));
+        placed = decode-placed;
+        rising = history-rising;
+        viewed = g .view;
+      }
+
+  -- ---- its layout
+
+  column-back : (l : List ℕ) (field : Change → ℕ) → field blank ≡ 0 → length l ≡ n → ((i : ℕ) → i < heldCount T → getD l i 0 ≡ field (changeAt T i)) → allZero (drop (heldCount T) l) ≡ true → column n 0 field (heldChanges T) ≡ l
+  column-back l field b e each z =
+      sym (column-is n 0 field (heldChanges T) l b e (rw held-length (f .small))
+      (λ i h. let h' : i < heldCount T = rw held-length at h in each i h' ∙ ap field (sym (held-get i h')))
+      (rw held-length (zeros-from l n (heldCount T) e z)))
+
+  blocks-back : {A : Type 0} (width : ℕ) (z : A) (field : Change → List A) (l : List A) → length l ≡ width * n → ((i : ℕ) → i < heldCount T → slots width i width l ≡ pad width z (field (changeAt T i))) → drop (width * heldCount T) l ≡ replicate (width * n - width * heldCount T) z → blocks n width z field (heldChanges T) ≡ l
+  blocks-back width z field l e each rest =
+      sym (blocks-is n width z field (heldChanges T) l e (rw held-length (f .small))
+      (λ i h. let h' : i < heldCount T = rw held-length at h in each i h' ∙ ap (λ (c : Change). pad width z (field c)) (sym (held-get i h')))
+      (rw held-length rest))
+
+  blocks-backN : (width : ℕ) (field : Change → List ℕ) (l : List ℕ) → length l ≡ width * n → ((i : ℕ) → i < heldCount T → slots width i width l ≡ pad width 0 (field (changeAt T i))) → allZero (drop (width * heldCount T) l) ≡ true → blocks n width 0 field (heldChanges T) ≡ l
+  blocks-backN width field l e each z = blocks-back width 0 field l e each (zeros-from l (width * n) (width * heldCount T) e z)
+
+  blocks-backZ : (width : ℕ) (field : Change → List ℤ) (l : List ℤ) → length l ≡ width * n → ((i : ℕ) → i < heldCount T → slots width i width l ≡ pad width (pos 0) (field (changeAt T i))) → allZeroZ (drop (width * heldCount T) l) ≡ true → blocks n width (pos 0) field (heldChanges T) ≡ l
+  blocks-backZ width field l e each z = blocks-back width (pos 0) field l e each (zerosZ-from l (width * n) (width * heldCount T) e z)
+
+  pub encode-back : encode n (decode T) ≡ T
+  unfolding encode decode
+  encode-back =
+      let u = f .unused in
+      let held = ap (_∷ []) held-length ∙ one-slot (T .held) (g .held) in
+      let timestamps = column-back (T .timestamps) timestamp refl (g .timestamps) (λ i h. refl) (u .timestamps) in
+      let order = sym (pad-is n 0 (heldCount T) (T .order) (g .order) (f .small) (zeros-from (T .order) n (heldCount T) (g .order) (u .order))) in
+      let status = column-back (T .status) (λ d. statusNumber (status d)) refl (g .status) (λ i h. sym (status-known (getD (T .status) i 0) (f .heads i h .status))) (u .status) in
+      let withdrawn = column-back (T .withdrawn) (λ d. flagNumber (withdrawn d)) refl (g .withdrawn) (λ i h. sym (flag-known (getD (T .withdrawn) i 0) (f .heads i h .withdrawn))) (u .withdrawn) in
+      let lengths = column-back (T .lengths) (λ d. length (program d) / 8) refl (g .lengths) (λ i h. omega (arith, program-length n T g f i h)) (u .lengths) in
+      let programs = blocks-backN 256 program (T .programs) (g .programs) (program-block n T g f) (u .programs) in
+      let reads = column-back (T .reads) (λ d. length (lists d .reads)) refl (g .reads) (λ i h. sym (reads-length n T g f i h)) (u .reads) in
+      let writes = column-back (T .writes) (λ d. length (lists d .writes)) refl (g .writes) (λ i h. sym (writes-length n T g f i h)) (u .writes) in
+      let sources = blocks-backN 32 (λ d. settingsOf (lists d .reads)) (T .sources) (g .sources) (sources-block n T g f) (u .sources) in
+      let seen = blocks-backZ 32 (λ d. valuesOf (lists d .reads)) (T .seen) (g .seen) (seen-block n T g f) (u .seen) in
+      let targets = blocks-backN 32 (λ d. settingsOf (lists d .writes)) (T .targets) (g .targets) (targets-block n T g f) (u .targets) in
+      let written = blocks-backZ 32 (λ d. valuesOf (lists d .writes)) (T .written) (g .written) (written-block n T g f) (u .written) in
+      λ j.
+      record {
+        held = held j;
+        timestamps = timestamps j;
+        order = order j;
+        status = status j;
+        withdrawn = withdrawn j;
+        lengths = lengths j;
+        programs = programs j;
+        reads = reads j;
+        writes = writes j;
+        sources = sources j;
+        seen = seen j;
+        targets = targets j;
+        written = written j;
+        view = T .view;
+      }

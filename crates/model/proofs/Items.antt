@@ -1,0 +1,170 @@
+-- Items, as calls of their own or as entries of a package: what the answer done tells, and what items do to the cabinet and to the book.
+use mathlib.Core.Path.{_≡_, refl, sym, ap, ap₂, _∙_}
+use mathlib.Core.Bool.{true, false, cond, and-true}
+use mathlib.Core.List.{List, [], _∷_, _++_, map}
+use mathlib.Core.Option.{Option, none, some}
+use Prim.Native.Nat.{ℕ, suc, _<_}
+use native.Mathlib.Omega.{arith}
+use borrow.Author.Tests.{ltb-true, leb-false, eqb-true, not-false}
+use lib.Dec.{eqb, ltb}
+use lib.ListN.{length}
+use Rattle.machine.specs.Form.{lengthFits, wellFormed}
+use Rattle.machine.proofs.Cases.{by-test, both}
+use Rattle.model.specs.declared.Answer.{Answer}
+use Rattle.model.specs.declared.Answer.the-variants as answer
+use Rattle.model.specs.History.{infinity, Change, change, timestamp, History}
+use Rattle.model.specs.Walk.{insert}
+use Rattle.model.specs.Cabinet.{Cabinet, historyOf, find, flag}
+use Rattle.model.specs.Refusals.{Test, firstOf, noTimestamp, wrongProgramLength, malformed, isHeld, isWithdrawn, heldOtherwise, full, notHeld, withdrawnAlready}
+use Rattle.model.specs.Package.{Item, taking, withdrawing}
+use Rattle.model.specs.Book.{booked, enter, strike, bookedAs, bookOf}
+use Rattle.model.specs.Calls.{answerNumber, itemRefusal, itemAccepted, itemAnswer, itemDone, ifDone, itemStep, itemAnswers, itemSteps}
+use Rattle.model.specs.Log.{bookDone, bookItem, bookItems}
+use Rattle.model.specs.Sound.{Placed, Sound}
+use Rattle.model.proofs.Cabinet.{of-choice, add-history, remove-history}
+use Rattle.model.proofs.Keeps.{add-sound, remove-sound}
+
+-- ---- the first refusal that applies
+
+abbrev pub NotZero : List Test → Type 0
+NotZero [] = Unit {0}
+NotZero (t ∷ tests) = ¬ (t .number ≡ 0) × NotZero tests
+
+abbrev pub NoneApplies : List Test → Type 0
+NoneApplies [] = Unit {0}
+NoneApplies (t ∷ tests) = (t .applies ≡ false) × NoneApplies tests
+
+-- no refusal, so no test applies
+pub none-applies : (tests : List Test) → NotZero tests → firstOf tests ≡ 0 → NoneApplies tests
+none-applies [] n e = tt
+none-applies (t ∷ tests) n e =
+    by-test (λ r. r ≡ 0 → NoneApplies (t ∷ tests)) (t .applies) (λ q z. absurd (n .0 z)) (λ q z. (q, none-applies tests (n .1) z)) e
+
+-- ---- what the answer done tells
+
+done-accepted : (n : ℕ) (c : Cabinet) (i : Item) → itemAnswer n c i ≡ answer.Done → (itemRefusal n c i ≡ 0) × (itemAccepted c i ≡ answer.Done)
+unfolding itemAnswer
+done-accepted n c i e =
+    by-test (λ a. a ≡ answer.Done → (itemRefusal n c i ≡ 0) × (itemAccepted c i ≡ answer.Done)) (eqb (itemRefusal n c i) 0)
+    (λ q d. (eqb-true (itemRefusal n c i) 0 q, d))
+    (λ q d. absurd (let z : _≡_ {A = ℕ} 0 1 = cc in omega arith)) e
+
+-- the timestamp is one, the program has its length and form, the timestamp is not held, and a place is left
+pub record TakingDone (n : ℕ) (c : Cabinet) (t : ℕ) (p : List ℕ) : Type 0 where
+  pub above : 0 < t
+  pub below : t < infinity
+  pub sized : lengthFits p ≡ true
+  pub formed : wellFormed p ≡ true
+  pub not-held : find t (historyOf c) ≡ none
+  pub room : length (c .changes) < n
+
+-- the timestamp is one, and is held by a change not yet withdrawn
+pub record WithdrawingDone (c : Cabinet) (t : ℕ) : Type 0 where
+  pub above : 0 < t
+  pub below : t < infinity
+  pub held : isHeld (find t (historyOf c)) ≡ true
+  pub not-yet : isWithdrawn (find t (historyOf c)) ≡ false
+
+not-held-none : (found : Option Change) → cond (isHeld found) answer.Held answer.Done ≡ answer.Done → found ≡ none
+not-held-none none e = refl
+not-held-none (some u) e = cc
+
+pub taking-done : (n : ℕ) (c : Cabinet) (t : ℕ) (p : List ℕ) → itemAnswer n c (taking t p) ≡ answer.Done → TakingDone n c t p
+taking-done n c t p e =
+    let accepted = done-accepted n c (taking t p) e in
+    let z = none-applies (noTimestamp t ∷ wrongProgramLength p ∷ malformed p ∷ heldOtherwise c t p ∷ full n c t ∷ []) (omega arith) (accepted .0) in
+    let stamped = both (ltb 0 t) (not-false _ (z .0)) in
+    let found = not-held-none (find t (historyOf c)) (accepted .1) in
+    record {
+      above = ltb-true 0 t (stamped .0);
+      below = ltb-true t infinity (stamped .1);
+      sized = not-false (lengthFits p) (z .1 .0);
+      formed = not-false (wellFormed p) (z .1 .1 .0);
+      not-held = found;
+      room = leb-false n (length (c .changes)) (sym (and-true _) ∙ (rw found at (z .1 .1 .1 .1 .0)));
+    }
+
+pub withdrawing-done : (n : ℕ) (c : Cabinet) (t : ℕ) → itemAnswer n c (withdrawing t) ≡ answer.Done → WithdrawingDone c t
+withdrawing-done n c t e =
+    let accepted = done-accepted n c (withdrawing t) e in
+    let z = none-applies (noTimestamp t ∷ notHeld c t ∷ withdrawnAlready c t ∷ []) (omega arith) (accepted .0) in
+    let stamped = both (ltb 0 t) (not-false _ (z .0)) in
+    record {
+      above = ltb-true 0 t (stamped .0);
+      below = ltb-true t infinity (stamped .1);
+      held = not-false (isHeld (find t (historyOf c))) (z .1 .0);
+      not-yet = z .1 .1 .0;
+    }
+
+-- ---- answers and their numbers
+
+accepted-not-refused : {A : Type 0} (c : Cabinet) (i : Item) (r : ℕ) → itemAccepted c i ≡ answer.Refused r → A
+accepted-not-refused {A} c (taking t p) r e =
+    by-test (λ a. a ≡ answer.Refused r → A) (isHeld (find t (historyOf c))) (λ q d. absurd (let z : _≡_ {A = ℕ} 0 1 = cc in omega arith))
+    (λ q d. absurd (let z : _≡_ {A = ℕ} 0 1 = cc in omega arith)) e
+accepted-not-refused c (withdrawing t) r e = absurd (let z : _≡_ {A = ℕ} 0 1 = cc in omega arith)
+
+module _ (n : ℕ) (c : Cabinet) (i : Item) where
+  refused-not-zero : (r : ℕ) → itemAnswer n c i ≡ answer.Refused r → eqb r 0 ≡ false
+  unfolding itemAnswer
+  refused-not-zero r e =
+      by-test (λ a. a ≡ answer.Refused r → eqb r 0 ≡ false) (eqb (itemRefusal n c i) 0) (λ q d. accepted-not-refused c i r d)
+      (λ q d. let w : itemRefusal n c i ≡ r = cc in rw w at q) e
+
+  -- an answer has the number 0 where it is done, and only there
+  pub number-done : {A : Type 0} (x y : A) → cond (eqb (answerNumber (itemAnswer n c i)) 0) x y ≡ ifDone (itemAnswer n c i) x y
+  number-done {A} x y = go (itemAnswer n c i) refl
+    where
+      go : (a : Answer) → itemAnswer n c i ≡ a → cond (eqb (answerNumber a) 0) x y ≡ ifDone a x y
+      go answer.Done e = refl
+      go answer.Held e = refl
+      go (answer.Refused r) e = ap (λ b. cond b x y) (refused-not-zero r e)
+
+-- ---- what is kept
+
+pub item-sound : {n : ℕ} {c : Cabinet} (i : Item) → Sound n c → Sound n (itemStep n c i)
+item-sound {n} {c} i s = go i (itemAnswer n c i) refl
+  where
+    go : (i : Item) (a : Answer) → itemAnswer n c i ≡ a → Sound n (ifDone a (itemDone c i) c)
+    go (taking t p) answer.Done e = let k = taking-done n c t p e in add-sound t p s (k .room) (k .above) (k .below) (k .sized) (k .formed) (k .not-held)
+    go (withdrawing t) answer.Done e = remove-sound t s
+    go i answer.Held e = s
+    go i (answer.Refused r) e = s
+
+pub items-sound : {n : ℕ} {c : Cabinet} (items : List Item) → Sound n c → Sound n (itemSteps n c items)
+items-sound [] s = s
+items-sound (i ∷ items) s = items-sound items (item-sound i s)
+
+pub length-itemAnswers : (n : ℕ) (c : Cabinet) (items : List Item) → length (itemAnswers n c items) ≡ length items
+length-itemAnswers n c [] = refl
+length-itemAnswers n c (i ∷ items) = ap suc (length-itemAnswers n (itemStep n c i) items)
+
+-- ---- the book
+
+book-insert : (t : ℕ) (p : List ℕ) (h : History) → bookOf (insert t p h) ≡ enter t p (bookOf h)
+book-insert t p [] = refl
+book-insert t p (change u q s w l ∷ h) = of-choice bookOf (ltb t u) refl (ap (booked u q w ∷_) (book-insert t p h))
+
+book-flag : (t : ℕ) (h : History) → bookOf (map (λ u. cond (eqb (timestamp u) t) (flag u) u) h) ≡ strike t (bookOf h)
+book-flag t [] = refl
+book-flag t (change u q s w l ∷ h) = ap₂ _∷_ (of-choice bookedAs (eqb u t) refl refl ∙ sym (of-choice (booked u q) (eqb u t) refl refl)) (book-flag t h)
+
+done-book : (c : Cabinet) (i : Item) → Placed c → bookOf (historyOf (itemDone c i)) ≡ bookDone i (bookOf (historyOf c))
+done-book c (taking t p) k = ap bookOf (add-history t p c k) ∙ book-insert t p (historyOf c)
+done-book c (withdrawing t) k = ap bookOf (remove-history t c k) ∙ book-flag t (historyOf c)
+
+-- the book of what is held follows from arguments and answers
+pub item-book : {n : ℕ} {c : Cabinet} (i : Item) → Sound n c → bookOf (historyOf (itemStep n c i)) ≡ bookItem i (answerNumber (itemAnswer n c i)) (bookOf (historyOf c))
+item-book {n} {c} i s = go (itemAnswer n c i) ∙ sym (number-done n c i (bookDone i (bookOf (historyOf c))) (bookOf (historyOf c)))
+  where
+    go : (a : Answer) → bookOf (historyOf (ifDone a (itemDone c i) c)) ≡ ifDone a (bookDone i (bookOf (historyOf c))) (bookOf (historyOf c))
+    go answer.Done = done-book c i (s .placed)
+    go answer.Held = refl
+    go (answer.Refused r) = refl
+
+-- the same of a package: of the answer bytes, those past its entries do not count
+pub items-book : {n : ℕ} {c : Cabinet} (items : List Item) (rest : List ℕ) → Sound n c → bookOf (historyOf (itemSteps n c items)) ≡ bookItems items (map answerNumber (itemAnswers n c items) ++ rest) (bookOf (historyOf c))
+items-book [] rest s = refl
+items-book {n} {c} (i ∷ items) rest s =
+    items-book items rest (item-sound i s)
+    ∙ ap (bookItems items (map answerNumber (itemAnswers n (itemStep n c i) items) ++ rest)) (item-book i s)

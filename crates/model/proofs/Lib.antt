@@ -1,0 +1,15 @@
+pub mod Values
+pub mod Programs
+pub mod Figure
+pub mod Cabinet
+pub mod Keeps
+pub mod Items
+pub mod Tabulate
+pub mod Blocks
+pub mod Entries
+pub mod Tests
+pub mod Order
+pub mod Tables
+pub mod Encode
+pub mod Decode
+pub mod Form

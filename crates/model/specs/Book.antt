@@ -1,0 +1,61 @@
+-- The book of held changes, and the fresh run over it (document 01, "Demand 3 spelled out").
+use mathlib.Core.Bool.{Bool, true, false, cond}
+use mathlib.Core.List.{List, [], _∷_, map}
+use Prim.Native.Nat.{ℕ}
+use lib.Dec.{eqb, ltb}
+use Rattle.machine.specs.Settings.{Environment, after}
+use Rattle.model.specs.History.{Lists, empty, runLists, Change, change, History}
+
+-- a change in the book: timestamp, program, withdrawn or not
+pub data Booked : Type 0 where
+  booked : ℕ → List ℕ → Bool → Booked
+
+-- by rising timestamp
+abbrev pub Book : Type 0
+Book = List Booked
+
+-- enters its timestamp and program, not withdrawn
+abbrev pub enter : ℕ → List ℕ → Book → Book
+enter t p [] = booked t p false ∷ []
+enter t p (booked u q w ∷ book) = cond (ltb t u) (booked t p false ∷ booked u q w ∷ book) (booked u q w ∷ enter t p book)
+
+-- marks that timestamp withdrawn
+abbrev pub strike : ℕ → Book → Book
+strike t [] = []
+strike t (booked u q w ∷ book) = booked u q (cond (eqb u t) true w) ∷ strike t book
+
+-- the book of what a history holds
+abbrev pub bookedAs : Change → Booked
+bookedAs (change t p s w l) = booked t p w
+
+abbrev pub bookOf : History → Book
+bookOf h = map bookedAs h
+
+-- ---- the fresh run
+
+-- a withdrawn change is passed over, its lists are empty; any other is run on the settings as they then stand
+abbrev pub freshLists : Booked → Environment → Lists
+freshLists (booked t p true) env = empty
+freshLists (booked t p false) env = runLists env p
+
+abbrev pub bookedAt : Booked → ℕ
+bookedAt (booked t p w) = t
+
+-- its writes are then carried into the settings
+abbrev pub freshAfter : Booked → Environment → Environment
+freshAfter b env = after (freshLists b env .writes) env
+
+-- the lists that the fresh run gives, by timestamp
+abbrev pub freshRun : Book → Environment → List (ℕ × Lists)
+freshRun [] env = []
+freshRun (b ∷ book) env = (bookedAt b, freshLists b env) ∷ freshRun book (freshAfter b env)
+
+-- the settings at the fresh run's end
+abbrev pub freshEnd : Book → Environment → Environment
+freshEnd [] env = env
+freshEnd (b ∷ book) env = freshEnd book (freshAfter b env)
+
+-- the settings in the fresh run just before the change of a timestamp
+abbrev pub freshBefore : ℕ → Book → Environment → Environment
+freshBefore t [] env = env
+freshBefore t (b ∷ book) env = cond (ltb (bookedAt b) t) (freshBefore t book (freshAfter b env)) env

@@ -1,0 +1,74 @@
+-- The cabinet: changes by place, the order list and the view; what taking in and withdrawing do to it (document 01, "Tables", "Calls").
+use mathlib.Core.Bool.{true, false, cond}
+use mathlib.Core.List.{List, [], _∷_, _++_, map}
+use mathlib.Core.Option.{Option, none, some}
+use Prim.Native.Nat.{ℕ}
+use lib.Dec.{eqb, ltb}
+use lib.IntN.{ℤ}
+use lib.ListN.{length, getD, set}
+use Rattle.model.specs.History.{start, Status, New, Valid, Invalid, empty, Change, change, timestamp, History, allSettings}
+
+-- changes in order of arrival, the places by rising timestamp, the current settings
+pub record Cabinet : Type 0 where
+  pub changes : List Change
+  pub order : List ℕ
+  pub view : List ℤ
+
+-- nothing held, every setting at its start
+abbrev pub emptyCabinet : Cabinet
+emptyCabinet = record { changes = []; order = []; view = allSettings start }
+
+-- what stands at a place that is not held
+abbrev pub blank : Change
+blank = change 0 [] New false empty
+
+-- the changes at some places, in the places' order
+abbrev pub changesAt : List Change → List ℕ → List Change
+changesAt changes [] = []
+changesAt changes (i ∷ places) = getD changes i blank ∷ changesAt changes places
+
+-- the changes by rising timestamp
+abbrev pub historyOf : Cabinet → History
+historyOf c = changesAt (c .changes) (c .order)
+
+-- changes put at some places
+abbrev pub putAt : List ℕ → List Change → List Change → List Change
+putAt [] new changes = changes
+putAt (i ∷ places) [] changes = changes
+putAt (i ∷ places) (c ∷ new) changes = putAt places new (set changes i c)
+
+-- the cabinet with another history of the same places, and another view
+abbrev pub withHistory : Cabinet → History → List ℤ → Cabinet
+withHistory c h view = record { changes = putAt (c .order) h (c .changes); order = c .order; view = view }
+
+-- the held change of a timestamp
+abbrev pub find : ℕ → History → Option Change
+find t [] = none
+find t (c ∷ h) = cond (eqb (timestamp c) t) (some c) (find t h)
+
+-- a place entered into the order list, below the first change stamped above t
+abbrev pub enterPlace : List Change → ℕ → ℕ → List ℕ → List ℕ
+enterPlace changes t place [] = place ∷ []
+enterPlace changes t place (i ∷ order) =
+    cond (ltb t (timestamp (getD changes i blank))) (place ∷ i ∷ order) (i ∷ enterPlace changes t place order)
+
+-- take in: the next place, New, not withdrawn, lists empty
+abbrev pub add : ℕ → List ℕ → Cabinet → Cabinet
+add t p c =
+    record {
+      changes = c .changes ++ (change t p New false empty ∷ []);
+      order = enterPlace (c .changes) t (length (c .changes)) (c .order);
+      view = c .view;
+    }
+
+-- withdraw: sets the flag; Valid becomes Invalid
+abbrev pub unsettled : Status → Status
+unsettled New = New
+unsettled Valid = Invalid
+unsettled Invalid = Invalid
+
+abbrev pub flag : Change → Change
+flag (change t p s w l) = change t p (unsettled s) true l
+
+abbrev pub remove : ℕ → Cabinet → Cabinet
+remove t c = withHistory c (map (λ u. cond (eqb (timestamp u) t) (flag u) u) (historyOf c)) (c .view)

@@ -1,0 +1,189 @@
+-- The ten calls, each as one function from its arguments and the lent tables to its answer and the tables after it (document 01, "Calls"). A refusal alters nothing.
+use mathlib.Core.Bool.{cond, not}
+use mathlib.Core.List.{List, [], _∷_, _++_, map}
+use mathlib.Core.Option.{Option, none, some}
+use Prim.Native.Nat.{ℕ}
+use lib.Dec.{eqb}
+use lib.IntN.{ℤ}
+use lib.ListN.{length, drop}
+use Rattle.machine.specs.Settings.{settingCount, valueIn}
+use Rattle.model.specs.declared.Answer.{Answer}
+use Rattle.model.specs.declared.Answer.the-variants as answer
+use Rattle.model.specs.declared.Turned.{Turned}
+use Rattle.model.specs.declared.Turned.the-variants as turn-answer
+use Rattle.model.specs.declared.Drained.{Drained}
+use Rattle.model.specs.declared.Drained.the-variants as drain-answer
+use Rattle.model.specs.declared.Value.{Value}
+use Rattle.model.specs.declared.Value.the-variants as value-answer
+use Rattle.model.specs.declared.Standing.{Standing}
+use Rattle.model.specs.declared.Standing.the-variants as standing-answer
+use Rattle.model.specs.History.{start, Change, status, withdrawn, asOf, allSettings}
+use Rattle.model.specs.Figure.{Event, ran, stood, cleared, Step, idle, turned, round}
+use Rattle.model.specs.Drain.{Drain, drainHistory, totals}
+use Rattle.model.specs.Cabinet.{Cabinet, emptyCabinet, historyOf, withHistory, find, add, remove}
+use Rattle.model.specs.Tables.{Tables, statusNumber, flagNumber, encode, decode}
+use Rattle.model.specs.Refusals.{test, firstOf, wrongLengths, wrongLength, notInForm, noTimestamp, noTime, noSetting, wrongProgramLength, malformed, isHeld, heldOtherwise, full, notHeld, withdrawnAlready}
+use Rattle.model.specs.Package.{Item, taking, withdrawing, layoutFits, itemsOf}
+use Rattle.model.specs.Book.{bookOf, freshEnd}
+
+-- the paper's number of an answer: 0 done, 255 already held, else the refusal
+abbrev pub answerNumber : Answer → ℕ
+answerNumber answer.Done = 0
+answerNumber answer.Held = 255
+answerNumber (answer.Refused r) = r
+
+-- an answer and the tables after the call
+pub record Reply (A : Type 0) : Type 0 where
+  pub answer : A
+  pub tables : Tables
+
+-- the reply of a call whose refusal is r: refused with the tables as they were, or what the call does
+abbrev pub unless : {A : Type 0} → ℕ → (ℕ → A) → Tables → Reply A → Reply A
+unless r refused T reply = cond (eqb r 0) reply (record { answer = refused r; tables = T })
+
+-- the same of a call that alters no table
+abbrev pub unlessRead : {A : Type 0} → ℕ → (ℕ → A) → A → A
+unlessRead r refused answer = cond (eqb r 0) answer (refused r)
+
+-- ---- set up
+
+-- every table to 0, the view to the start
+unfoldable pub setUp : ℕ → Tables → Reply Answer
+setUp n T =
+    unless (firstOf (wrongLengths n T ∷ [])) answer.Refused T
+    (record { answer = answer.Done; tables = encode n emptyCabinet })
+
+-- ---- take in, withdraw, take in a package
+
+-- the refusal of an item on tables in form
+abbrev pub itemRefusal : ℕ → Cabinet → Item → ℕ
+itemRefusal n c (taking t p) =
+    firstOf (noTimestamp t ∷ wrongProgramLength p ∷ malformed p ∷ heldOtherwise c t p ∷ full n c t ∷ [])
+itemRefusal n c (withdrawing t) = firstOf (noTimestamp t ∷ notHeld c t ∷ withdrawnAlready c t ∷ [])
+
+-- its answer, where it is not refused: the same timestamp with the same program bytes is held already
+abbrev pub itemAccepted : Cabinet → Item → Answer
+itemAccepted c (taking t p) = cond (isHeld (find t (historyOf c))) answer.Held answer.Done
+itemAccepted c (withdrawing t) = answer.Done
+
+unfoldable pub itemAnswer : ℕ → Cabinet → Item → Answer
+itemAnswer n c i = unlessRead (itemRefusal n c i) answer.Refused (itemAccepted c i)
+
+-- what it does, where it is answered done
+abbrev pub itemDone : Cabinet → Item → Cabinet
+itemDone c (taking t p) = add t p c
+itemDone c (withdrawing t) = remove t c
+
+-- one thing if the answer is done, and another if not
+abbrev pub ifDone : {A : Type 0} → Answer → A → A → A
+ifDone answer.Done x y = x
+ifDone answer.Held x y = y
+ifDone (answer.Refused r) x y = y
+
+abbrev pub itemCall : ℕ → Tables → Item → Reply Answer
+itemCall n T i =
+    let c = decode T in
+    unless (firstOf (wrongLengths n T ∷ notInForm n T ∷ [])) answer.Refused T
+    (record { answer = itemAnswer n c i; tables = ifDone (itemAnswer n c i) (encode n (itemDone c i)) T })
+
+unfoldable pub takeIn : ℕ → Tables → ℕ → List ℕ → Reply Answer
+takeIn n T t p = itemCall n T (taking t p)
+
+unfoldable pub withdraw : ℕ → Tables → ℕ → Reply Answer
+withdraw n T t = itemCall n T (withdrawing t)
+
+-- the entries of a package are carried out in order; a refused entry stops nothing
+abbrev pub itemStep : ℕ → Cabinet → Item → Cabinet
+itemStep n c i = ifDone (itemAnswer n c i) (itemDone c i) c
+
+abbrev pub itemAnswers : ℕ → Cabinet → List Item → List Answer
+itemAnswers n c [] = []
+itemAnswers n c (i ∷ items) = itemAnswer n c i ∷ itemAnswers n (itemStep n c i) items
+
+abbrev pub itemSteps : ℕ → Cabinet → List Item → Cabinet
+itemSteps n c [] = c
+itemSteps n c (i ∷ items) = itemSteps n (itemStep n c i) items
+
+-- a package's reply also has the lent slice of 512 answer bytes
+pub record PackageReply : Type 0 where
+  pub answer : Answer
+  pub tables : Tables
+  pub answers : List ℕ
+
+unfoldable pub takeInPackage : ℕ → Tables → List ℕ → List ℕ → PackageReply
+takeInPackage n T bytes answers =
+    let c = decode T in
+    let items = itemsOf bytes in
+    let r = firstOf (wrongLength n T (length answers) 512 ∷ notInForm n T ∷ test 3 (not (layoutFits bytes)) ∷ []) in
+    cond (eqb r 0)
+    (record {
+      answer = answer.Done;
+      tables = encode n (itemSteps n c items);
+      answers = map answerNumber (itemAnswers n c items) ++ drop (length items) answers;
+    })
+    (record { answer = answer.Refused r; tables = T; answers = answers })
+
+-- ---- turn, drain
+
+abbrev pub eventAnswer : Event → Turned
+eventAnswer (ran t l) = turn-answer.Ran t
+eventAnswer (stood t) = turn-answer.Stood t
+eventAnswer (cleared t) = turn-answer.Cleared t
+
+abbrev pub stepReply : ℕ → Tables → Cabinet → Step → Reply Turned
+stepReply n T c idle = record { answer = turn-answer.Idle; tables = T }
+stepReply n T c (turned h view e) = record { answer = eventAnswer e; tables = encode n (withHistory c h view) }
+
+-- the round of a cabinet
+abbrev pub roundOf : Cabinet → Step
+roundOf c = round start (historyOf c) (c .view)
+
+unfoldable pub turn : ℕ → Tables → Reply Turned
+turn n T =
+    unless (firstOf (wrongLengths n T ∷ notInForm n T ∷ [])) turn-answer.Refused T
+    (stepReply n T (decode T) (roundOf (decode T)))
+
+abbrev pub drainOf : Cabinet → Drain
+drainOf c = drainHistory start (historyOf c) (c .view)
+
+unfoldable pub drain : ℕ → Tables → Reply Drained
+drain n T =
+    let c = decode T in
+    let d = drainOf c in
+    unless (firstOf (wrongLengths n T ∷ notInForm n T ∷ [])) drain-answer.Refused T
+    (record { answer = drain-answer.Counted (totals (d .events)); tables = encode n (withHistory c (d .history) (d .view)) })
+
+-- ---- the calls that only read
+
+-- from the view
+unfoldable pub currentValue : ℕ → Tables → ℕ → Value
+currentValue n T s =
+    unlessRead (firstOf (wrongLengths n T ∷ notInForm n T ∷ noSetting s ∷ [])) value-answer.Refused
+    (value-answer.Is (valueIn (T .view) s))
+
+-- the highest write stamped below it, else the start
+unfoldable pub valueAsOf : ℕ → Tables → ℕ → ℕ → Value
+valueAsOf n T t s =
+    unlessRead (firstOf (wrongLengths n T ∷ notInForm n T ∷ noTime t ∷ noSetting s ∷ [])) value-answer.Refused
+    (value-answer.Is (asOf t (historyOf (decode T)) start s))
+
+-- status and flag
+abbrev pub standingOf : Option Change → Standing
+standingOf none = standing-answer.At 0 0
+standingOf (some c) = standing-answer.At (statusNumber (status c)) (flagNumber (withdrawn c))
+
+unfoldable pub standing : ℕ → Tables → ℕ → Standing
+standing n T t =
+    unlessRead (firstOf (wrongLengths n T ∷ notInForm n T ∷ noTimestamp t ∷ notHeld (decode T) t ∷ [])) standing-answer.Refused
+    (standingOf (find t (historyOf (decode T))))
+
+-- a plain run's reply has the lent slice of 1,024 settings: what all held changes leave, run in timestamp order, withdrawn ones passed over
+pub record PlainReply : Type 0 where
+  pub answer : Answer
+  pub settings : List ℤ
+
+unfoldable pub plainRun : ℕ → Tables → List ℤ → PlainReply
+plainRun n T settings =
+    let r = firstOf (wrongLength n T (length settings) settingCount ∷ notInForm n T ∷ []) in
+    cond (eqb r 0) (record { answer = answer.Done; settings = allSettings (freshEnd (bookOf (historyOf (decode T))) start) })
+    (record { answer = answer.Refused r; settings = settings })

@@ -1,0 +1,326 @@
+-- Document 01's cases P1 to P11 and its package ("Cases to know"), carried out by the definitions of the calls. The table is proved by computation.
+use mathlib.Core.Path.{_≡_, refl}
+use mathlib.Core.Bool.{Bool, true, false, _&&_}
+use mathlib.Core.List.{List, [], _∷_, _++_, map}
+use Prim.Native.Nat.{ℕ, _*_, _/_, _%_}
+use lib.Count.{onesIn}
+use lib.IntN.{ℤ, pos, negsuc}
+use lib.ListN.{replicate}
+use Rattle.words.specs.Words.{patternOf, numberOf, wrap, floorDiv, onesOf}
+use Rattle.machine.specs.Settings.{settingCount, named, entries, lookup}
+use Rattle.machine.specs.Instruction.{instructionAt, instructionsFrom, programOf}
+use Rattle.machine.specs.Form.{isWellFormed, allBelow, lengthFits, wellFormed}
+use Rattle.machine.specs.Run.{effect, shiftRight, enter, load, store, perform, step, runFrom, runProgram, run}
+use Rattle.model.specs.declared.Answer.{Answer}
+use Rattle.model.specs.declared.Turned.{Turned}
+use Rattle.model.specs.declared.Turned.the-variants.{Ran, Stood, Cleared}
+use Rattle.model.specs.declared.Drained.{Drained}
+use Rattle.model.specs.declared.Drained.the-variants.{Counted}
+use Rattle.model.specs.declared.Value.{Value}
+use Rattle.model.specs.declared.Value.the-variants.{Is}
+use Rattle.model.specs.declared.Standing.{Standing}
+use Rattle.model.specs.declared.Standing.the-variants.{At}
+use Rattle.model.specs.History.{start, runLists}
+use Rattle.model.specs.Figure.{round}
+use Rattle.model.specs.Drain.{drainFor, drainHistory}
+use Rattle.model.specs.Tables.{Tables, pad, encode, decode}
+use Rattle.model.specs.Form.{lengthsFit, inForm}
+use Rattle.model.specs.Refusals.{sameBytes}
+use Rattle.model.specs.Package.{numberAt, countBefore, layoutFits, itemsOf}
+use Rattle.model.specs.Calls.{Reply, setUp, itemAnswer, ifDone, takeIn, withdraw, takeInPackage, eventAnswer, turn, drain, currentValue, valueAsOf, standing}
+use Rattle.model.specs.Log.{drainEvents}
+
+-- ---- programs
+
+-- an instruction's 8 bytes
+abbrev instruction : ℕ → ℕ → ℕ → ℕ → ℤ → List ℕ
+instruction o a b c n =
+    let p = patternOf n in
+    o ∷ a ∷ b ∷ c ∷ p % 256 ∷ p / 256 % 256 ∷ p / 65536 % 256 ∷ p / 16777216 ∷ []
+
+-- ra = n, ra = setting n, setting n = ra
+abbrev constant : ℕ → ℤ → List ℕ
+constant a n = instruction 1 a 0 0 n
+
+abbrev reading : ℕ → ℕ → List ℕ
+reading a s = instruction 11 a 0 0 (pos s)
+
+abbrev writing : ℕ → ℕ → List ℕ
+writing s a = instruction 13 a 0 0 (pos s)
+
+-- sets setting s to v
+abbrev sets : ℕ → ℤ → List ℕ
+sets s v = constant 0 v ++ writing s 0
+
+-- copies setting s to r
+abbrev copies : ℕ → ℕ → List ℕ
+copies s r = reading 0 s ++ writing r 0
+
+-- adds n to setting s, subtracts n from it; the new value stays in register 2
+abbrev adds : ℕ → ℤ → List ℕ
+adds s n = reading 0 s ++ constant 1 n ++ instruction 3 2 0 1 (pos 0) ++ writing s 2
+
+abbrev subtracts : ℕ → ℤ → List ℕ
+subtracts s n = reading 0 s ++ constant 1 n ++ instruction 4 2 0 1 (pos 0) ++ writing s 2
+
+-- stops if register 2 is not negative, else sets setting s to 1
+abbrev alarms : ℕ → List ℕ
+alarms s = instruction 15 0 2 0 (pos 1) ++ instruction 0 0 0 0 (pos 0) ++ sets s (pos 1)
+
+-- ---- the table
+
+-- a step of a script: every taking in and withdrawal is to be answered done; the entries of a package are to be answered as listed behind it
+data Action : Type 0 where
+  takesIn : ℕ → List ℕ → Action
+  takesInPackage : List ℕ → List ℕ → Action
+  withdraws : ℕ → Action
+  turns : Action
+  drains : Action
+
+-- what a call answers after the last drain: the current value of s, the value as of t of s, the standing of t
+data Fact : Type 0 where
+  current : ℕ → Value → Fact
+  asOf : ℕ → ℕ → Value → Fact
+  stands : ℕ → Standing → Fact
+
+-- the steps before the last drain, the turns of that drain, its answer, and what holds after it
+record Case : Type 0 where
+  script : List Action
+  turned : List Turned
+  answer : Drained
+  facts : List Fact
+
+-- so many ran, stood and were cleared
+abbrev counted : ℕ → ℕ → ℕ → Drained
+counted n m k = Counted (record { ran = n; stood = m; cleared = k })
+
+-- nothing held: no turns
+P1 : Case
+P1 = record { script = []; turned = []; answer = counted 0 0 0; facts = [] }
+
+-- 20 sets 34 to 5, drained; 10 sets 34 to 7: 10 ran; view 5, as of 15 it is 7
+P2 : Case
+P2 =
+    record {
+      script = takesIn 20 (sets 34 (pos 5)) ∷ drains ∷ takesIn 10 (sets 34 (pos 7)) ∷ [];
+      turned = Ran 10 ∷ [];
+      answer = counted 1 0 0;
+      facts = current 34 (Is (pos 5)) ∷ asOf 15 34 (Is (pos 7)) ∷ [];
+    }
+
+-- 20 copies 34 to 50, drained; 10 sets 34 to 7: 10 and 20 ran; 50 is 7
+P3 : Case
+P3 =
+    record {
+      script = takesIn 20 (copies 34 50) ∷ drains ∷ takesIn 10 (sets 34 (pos 7)) ∷ [];
+      turned = Ran 10 ∷ Ran 20 ∷ [];
+      answer = counted 2 0 0;
+      facts = current 50 (Is (pos 7)) ∷ [];
+    }
+
+-- as P3, but 10 sets 34 to 0: only 10 has a turn
+P4 : Case
+P4 =
+    record {
+      script = takesIn 20 (copies 34 50) ∷ drains ∷ takesIn 10 (sets 34 (pos 0)) ∷ [];
+      turned = Ran 10 ∷ [];
+      answer = counted 1 0 0;
+      facts = current 50 (Is (pos 0)) ∷ [];
+    }
+
+-- 20 sets 34 to 5, 30 copies 34 to 50, drained; 10 sets 34 to 7: only 10
+P5 : Case
+P5 =
+    record {
+      script = takesIn 20 (sets 34 (pos 5)) ∷ takesIn 30 (copies 34 50) ∷ drains ∷ takesIn 10 (sets 34 (pos 7)) ∷ [];
+      turned = Ran 10 ∷ [];
+      answer = counted 1 0 0;
+      facts = current 34 (Is (pos 5)) ∷ current 50 (Is (pos 5)) ∷ [];
+    }
+
+-- 20 adds 1 to 34 by reading and writing, drained; 10 sets 34 to 7: both ran; 34 is 8
+P6 : Case
+P6 =
+    record {
+      script = takesIn 20 (adds 34 (pos 1)) ∷ drains ∷ takesIn 10 (sets 34 (pos 7)) ∷ [];
+      turned = Ran 10 ∷ Ran 20 ∷ [];
+      answer = counted 2 0 0;
+      facts = current 34 (Is (pos 8)) ∷ [];
+    }
+
+-- 30 copies 34 to 50, drained; 10 sets 34 to 7, one turn; 20 sets 34 to 0: 20 ran, 30 stood
+P7 : Case
+P7 =
+    record {
+      script =
+          takesIn 30 (copies 34 50) ∷ drains ∷ takesIn 10 (sets 34 (pos 7)) ∷ turns ∷ takesIn 20 (sets 34 (pos 0)) ∷ [];
+      turned = Ran 20 ∷ Stood 30 ∷ [];
+      answer = counted 1 1 0;
+      facts = current 50 (Is (pos 0)) ∷ stands 30 (At 1 0) ∷ [];
+    }
+
+-- 10 sets 34 to 7 and 40 to 3, drained, withdrawn: cleared; both are 0
+P8 : Case
+P8 =
+    record {
+      script = takesIn 10 (sets 34 (pos 7) ++ sets 40 (pos 3)) ∷ drains ∷ withdraws 10 ∷ [];
+      turned = Cleared 10 ∷ [];
+      answer = counted 0 0 1;
+      facts = current 34 (Is (pos 0)) ∷ current 40 (Is (pos 0)) ∷ stands 10 (At 1 1) ∷ [];
+    }
+
+-- 10 writes 34 twice: it writes nothing
+P9 : Case
+P9 =
+    record {
+      script = takesIn 10 (sets 34 (pos 7) ++ sets 34 (pos 5)) ∷ [];
+      turned = Ran 10 ∷ [];
+      answer = counted 1 0 0;
+      facts = current 34 (Is (pos 0)) ∷ asOf 20 34 (Is (pos 0)) ∷ [];
+    }
+
+-- −2,147,483,648 negated is itself; 2,147,483,647 + 1 is −2,147,483,648; −5 by op 6 with n = 1 is −3; −1 has 32 ones
+P10 : Case
+P10 =
+    record {
+      script =
+          takesIn 10 (constant 0 (negsuc 2147483647) ++ instruction 5 1 0 0 (pos 0) ++ writing 34 1)
+          ∷ takesIn 20 (constant 0 (pos 2147483647) ++ constant 1 (pos 1) ++ instruction 3 2 0 1 (pos 0) ++ writing 35 2)
+          ∷ takesIn 30 (constant 0 (negsuc 4) ++ instruction 6 1 0 0 (pos 1) ++ writing 36 1)
+          ∷ takesIn 40 (constant 0 (negsuc 0) ++ instruction 7 1 0 0 (pos 0) ++ writing 37 1)
+          ∷ [];
+      turned = Ran 10 ∷ Ran 20 ∷ Ran 30 ∷ Ran 40 ∷ [];
+      answer = counted 4 0 0;
+      facts =
+          current 34 (Is (negsuc 2147483647))
+          ∷ current 35 (Is (negsuc 2147483647))
+          ∷ current 36 (Is (negsuc 2))
+          ∷ current 37 (Is (pos 32))
+          ∷ [];
+    }
+
+-- 10 sets 36 to 400, 30 takes 300 from 36 and sets 37 to 1 if negative, drained: 100 and 0
+P11-before : Case
+P11-before =
+    record {
+      script = takesIn 10 (sets 36 (pos 400)) ∷ takesIn 30 (subtracts 36 (pos 300) ++ alarms 37) ∷ [];
+      turned = Ran 10 ∷ Ran 30 ∷ [];
+      answer = counted 2 0 0;
+      facts = current 36 (Is (pos 100)) ∷ current 37 (Is (pos 0)) ∷ [];
+    }
+
+-- then 20 takes 200: 20 and 30 ran; −100 and 1
+P11-after : Case
+P11-after =
+    record {
+      script =
+          takesIn 10 (sets 36 (pos 400))
+          ∷ takesIn 30 (subtracts 36 (pos 300) ++ alarms 37)
+          ∷ drains
+          ∷ takesIn 20 (subtracts 36 (pos 200))
+          ∷ [];
+      turned = Ran 20 ∷ Ran 30 ∷ [];
+      answer = counted 2 0 0;
+      facts = current 36 (Is (negsuc 99)) ∷ current 37 (Is (pos 1)) ∷ [];
+    }
+
+-- an entry of a package's contents, stamped below 256
+abbrev listed : ℕ → ℕ → ℕ → List ℕ
+listed t kind count = t ∷ (replicate 7 0 ++ (kind ∷ count ∷ 0 ∷ 0 ∷ []))
+
+-- the package of 70 bytes: 20 (copy 34 to 50), 10 (set 34 to 7), withdrawal of 15: taken, taken, refused 10; 10 and 20 ran; 34 and 50 are 7
+sample-package : Case
+sample-package =
+    record {
+      script =
+          takesInPackage (3 ∷ 0 ∷ (listed 20 0 2 ++ listed 10 0 2 ++ listed 15 1 0 ++ copies 34 50 ++ sets 34 (pos 7))) (0 ∷ 0 ∷ 10 ∷ [])
+          ∷ [];
+      turned = Ran 10 ∷ Ran 20 ∷ [];
+      answer = counted 2 0 0;
+      facts = current 34 (Is (pos 7)) ∷ current 50 (Is (pos 7)) ∷ [];
+    }
+
+cases : List Case
+cases = P1 ∷ P2 ∷ P3 ∷ P4 ∷ P5 ∷ P6 ∷ P7 ∷ P8 ∷ P9 ∷ P10 ∷ P11-before ∷ P11-after ∷ sample-package ∷ []
+
+-- ---- carrying it out
+
+abbrev capacity : ℕ
+capacity = 4
+
+-- tables of zeros
+abbrev blank : Tables
+blank =
+    record {
+      held = 0 ∷ [];
+      timestamps = replicate capacity 0;
+      order = replicate capacity 0;
+      status = replicate capacity 0;
+      withdrawn = replicate capacity 0;
+      lengths = replicate capacity 0;
+      programs = replicate (256 * capacity) 0;
+      reads = replicate capacity 0;
+      writes = replicate capacity 0;
+      sources = replicate (32 * capacity) 0;
+      seen = replicate (32 * capacity) (pos 0);
+      targets = replicate (32 * capacity) 0;
+      written = replicate (32 * capacity) (pos 0);
+      view = replicate settingCount (pos 0);
+    }
+
+-- the tables after some calls, and whether the set up and every taking in, package and withdrawal among them was answered as it is to be
+record Progress : Type 0 where
+  tables : Tables
+  done : Bool
+
+-- after a call that is to be answered done
+abbrev follow : Progress → Reply Answer → Progress
+follow s r = record { tables = r .tables; done = ifDone (r .answer) (s .done) false }
+
+abbrev carryOut : Action → Progress → Progress
+carryOut (takesIn t p) s = follow s (takeIn capacity (s .tables) t p)
+carryOut (takesInPackage bytes answers) s =
+    let r = takeInPackage capacity (s .tables) bytes (replicate 512 0) in
+    record { tables = r .tables; done = ifDone (r .answer) (sameBytes (r .answers) (pad 512 0 answers) && s .done) false }
+carryOut (withdraws t) s = follow s (withdraw capacity (s .tables) t)
+carryOut turns s = record { tables = turn capacity (s .tables) .tables; done = s .done }
+carryOut drains s = record { tables = drain capacity (s .tables) .tables; done = s .done }
+
+abbrev carryOutAll : List Action → Progress → Progress
+carryOutAll [] s = s
+carryOutAll (a ∷ script) s = carryOutAll script (carryOut a s)
+
+-- tables just set up
+abbrev begun : Progress
+begun = follow (record { tables = blank; done = true }) (setUp capacity blank)
+
+-- the fact as the call answers it
+abbrev asked : Tables → Fact → Fact
+asked T (current s v) = current s (currentValue capacity T s)
+asked T (asOf t s v) = asOf t s (valueAsOf capacity T t s)
+asked T (stands t v) = stands t (standing capacity T t)
+
+-- what carrying out a case gives: whether the script was answered as it is to be, the turns of the last drain, its answer, and the facts
+record Outcome : Type 0 where
+  done : Bool
+  turned : List Turned
+  answer : Drained
+  facts : List Fact
+
+outcome : Case → Outcome
+outcome c =
+    let s = carryOutAll (c .script) begun in
+    let r = drain capacity (s .tables) in
+    record {
+      done = s .done;
+      turned = map eventAnswer (drainEvents capacity (s .tables));
+      answer = r .answer;
+      facts = map (asked (r .tables)) (c .facts);
+    }
+
+expected : Case → Outcome
+expected c = record { done = true; turned = c .turned; answer = c .answer; facts = c .facts }
+
+cases-hold : map outcome cases ≡ map expected cases
+unfolding cases P1 P2 P3 P4 P5 P6 P7 P8 P9 P10 P11-before P11-after sample-package outcome expected setUp takeIn withdraw takeInPackage turn drain currentValue valueAsOf standing itemAnswer layoutFits itemsOf numberAt countBefore encode decode lengthsFit inForm drainHistory drainFor round start runLists run runProgram runFrom step perform effect load store enter named lookup entries lengthFits wellFormed allBelow isWellFormed programOf instructionsFrom instructionAt shiftRight patternOf numberOf wrap floorDiv onesOf onesIn
+cases-hold = refl

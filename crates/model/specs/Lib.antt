@@ -1,0 +1,14 @@
+pub mod History
+pub mod Figure
+pub mod Drain
+pub mod Cabinet
+pub mod Tables
+pub mod Form
+pub mod Refusals
+pub mod Package
+pub mod Book
+pub mod Calls
+pub mod Log
+pub mod Walk
+pub mod Sound
+pub mod Cases

@@ -1,0 +1,86 @@
+-- Lists of calls: the tables, the book and the turns after them (document 01, "Demand 3 spelled out").
+use mathlib.Core.Bool.{cond}
+use mathlib.Core.List.{List, [], _∷_, _++_}
+use Prim.Native.Nat.{ℕ}
+use lib.Dec.{eqb}
+use Rattle.model.specs.Figure.{Event, Step, idle, turned}
+use Rattle.model.specs.Tables.{Tables, decode}
+use Rattle.model.specs.Refusals.{firstOf, wrongLengths, notInForm}
+use Rattle.model.specs.Package.{Item, taking, withdrawing, itemsOf}
+use Rattle.model.specs.Book.{Book, enter, strike}
+use Rattle.model.specs.Calls.{answerNumber, takeIn, withdraw, takeInPackage, turn, drain, roundOf, drainOf}
+
+-- the calls that may alter the tables, each with its further arguments as the caller passes them
+pub data Call : Type 0 where
+  takeInCall : ℕ → List ℕ → Call
+  packageCall : List ℕ → List ℕ → Call
+  withdrawCall : ℕ → Call
+  turnCall : Call
+  drainCall : Call
+
+-- ---- the book, from arguments and answers alone
+
+-- an item answered 0
+abbrev pub bookDone : Item → Book → Book
+bookDone (taking t p) book = enter t p book
+bookDone (withdrawing t) book = strike t book
+
+abbrev pub bookItem : Item → ℕ → Book → Book
+bookItem i number book = cond (eqb number 0) (bookDone i book) book
+
+-- the entries of a package with their answer bytes, in order
+abbrev pub bookItems : List Item → List ℕ → Book → Book
+bookItems [] answers book = book
+bookItems (i ∷ items) [] book = book
+bookItems (i ∷ items) (a ∷ answers) book = bookItems items answers (bookItem i a book)
+
+-- ---- the turns of a call
+
+abbrev pub stepEvents : Step → List Event
+stepEvents idle = []
+stepEvents (turned h view e) = e ∷ []
+
+-- none where the call is refused
+abbrev pub unlessRefused : ℕ → Tables → List Event → List Event
+unlessRefused n T events = cond (eqb (firstOf (wrongLengths n T ∷ notInForm n T ∷ [])) 0) events []
+
+abbrev pub turnEvents : ℕ → Tables → List Event
+turnEvents n T = unlessRefused n T (stepEvents (roundOf (decode T)))
+
+abbrev pub drainEvents : ℕ → Tables → List Event
+drainEvents n T = unlessRefused n T (drainOf (decode T) .events)
+
+-- ---- a list of calls
+
+-- the tables, the book, and the turns so far, in order
+pub record Ledger : Type 0 where
+  pub tables : Tables
+  pub book : Book
+  pub events : List Event
+
+unfoldable pub afterCall : ℕ → Call → Ledger → Ledger
+afterCall n (takeInCall t p) k =
+    let r = takeIn n (k .tables) t p in
+    record { tables = r .tables; book = bookItem (taking t p) (answerNumber (r .answer)) (k .book); events = k .events }
+afterCall n (packageCall bytes answers) k =
+    let r = takeInPackage n (k .tables) bytes answers in
+    record {
+      tables = r .tables;
+      book = cond (eqb (answerNumber (r .answer)) 0) (bookItems (itemsOf bytes) (r .answers) (k .book)) (k .book);
+      events = k .events;
+    }
+afterCall n (withdrawCall t) k =
+    let r = withdraw n (k .tables) t in
+    record { tables = r .tables; book = bookItem (withdrawing t) (answerNumber (r .answer)) (k .book); events = k .events }
+afterCall n turnCall k =
+    record { tables = turn n (k .tables) .tables; book = k .book; events = k .events ++ turnEvents n (k .tables) }
+afterCall n drainCall k =
+    record { tables = drain n (k .tables) .tables; book = k .book; events = k .events ++ drainEvents n (k .tables) }
+
+abbrev pub afterCalls : ℕ → List Call → Ledger → Ledger
+afterCalls n [] k = k
+afterCalls n (c ∷ calls) k = afterCalls n calls (afterCall n c k)
+
+-- tables just set up: nothing booked, no turns
+abbrev pub begun : Tables → Ledger
+begun T = record { tables = T; book = []; events = [] }

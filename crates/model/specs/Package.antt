@@ -1,0 +1,75 @@
+-- The layout of a package, and the changes and withdrawals that it holds (document 01, "Calls", refusal 3).
+use mathlib.Core.Bool.{Bool, cond, _||_}
+use mathlib.Core.List.{List, [], _∷_}
+use Prim.Native.Nat.{ℕ, zero, suc, _+_, _*_}
+use lib.Dec.{eqb, leb}
+use lib.ListN.{length, getD, take, drop}
+use Rattle.machine.specs.Form.{allBelow}
+use Rattle.model.specs.History.{tabulate}
+use Rattle.model.specs.Form.{every}
+
+-- a taking in or a withdrawal, as a call of its own or as an entry of a package
+pub data Item : Type 0 where
+  taking : ℕ → List ℕ → Item
+  withdrawing : ℕ → Item
+
+-- the number in so many bytes at i, low byte first
+unfoldable pub numberAt : List ℕ → ℕ → ℕ → ℕ
+numberAt bytes i zero = 0
+numberAt bytes i (suc k) = getD bytes i 0 + 256 * numberAt bytes (suc i) k
+
+-- k, the number of entries, from 0 to 512
+abbrev pub entryCount : List ℕ → ℕ
+entryCount bytes = numberAt bytes 0 2
+
+-- entry j, of 12 bytes: timestamp (8), kind, instruction count, two zero bytes
+abbrev pub entryAt : ℕ → ℕ
+entryAt j = 2 + 12 * j
+
+abbrev pub stampOf : List ℕ → ℕ → ℕ
+stampOf bytes j = numberAt bytes (entryAt j) 8
+
+abbrev pub kindOf : List ℕ → ℕ → ℕ
+kindOf bytes j = getD bytes (entryAt j + 8) 0
+
+abbrev pub countOf : List ℕ → ℕ → ℕ
+countOf bytes j = getD bytes (entryAt j + 9) 0
+
+-- kind 0 change or 1 withdrawal; count 0 to 32, and 0 for a withdrawal; two zero bytes
+abbrev pub entryFits : List ℕ → ℕ → Bool
+entryFits bytes j =
+    every
+    (leb (kindOf bytes j) 1
+    ∷ leb (countOf bytes j) 32
+    ∷ (eqb (kindOf bytes j) 0 || eqb (countOf bytes j) 0)
+    ∷ eqb (getD bytes (entryAt j + 10) 0) 0
+    ∷ eqb (getD bytes (entryAt j + 11) 0) 0
+    ∷ [])
+
+-- the instructions of the bodies before that of entry j
+unfoldable pub countBefore : List ℕ → ℕ → ℕ
+countBefore bytes zero = 0
+countBefore bytes (suc j) = countBefore bytes j + countOf bytes j
+
+-- bodies follow the entries in their order, without gaps
+abbrev pub bodyAt : List ℕ → ℕ → ℕ
+bodyAt bytes j = entryAt (entryCount bytes) + 8 * countBefore bytes j
+
+-- at most 65,535 bytes, at most 512 entries, each right, and the length fits exactly: not refusal 3
+unfoldable pub layoutFits : List ℕ → Bool
+layoutFits bytes =
+    every
+    (leb 2 (length bytes)
+    ∷ leb (length bytes) 65535
+    ∷ leb (entryCount bytes) 512
+    ∷ leb (entryAt (entryCount bytes)) (length bytes)
+    ∷ allBelow (entryCount bytes) (entryFits bytes)
+    ∷ eqb (length bytes) (bodyAt bytes (entryCount bytes))
+    ∷ [])
+
+abbrev pub itemAt : List ℕ → ℕ → Item
+itemAt bytes j =
+    cond (eqb (kindOf bytes j) 0) (taking (stampOf bytes j) (take (8 * countOf bytes j) (drop (bodyAt bytes j) bytes))) (withdrawing (stampOf bytes j))
+
+unfoldable pub itemsOf : List ℕ → List Item
+itemsOf bytes = tabulate (entryCount bytes) (itemAt bytes)

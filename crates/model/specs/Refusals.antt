@@ -1,0 +1,92 @@
+-- The tests of document 01, "Turned down, in checking order". A call lists its tests in this order; the first that applies is its refusal.
+use mathlib.Core.Bool.{Bool, true, false, cond, not, _&&_}
+use mathlib.Core.List.{List, [], _∷_}
+use mathlib.Core.Option.{Option, none, some}
+use Prim.Native.Nat.{ℕ}
+use lib.Dec.{eqb, leb}
+use lib.ListN.{length}
+use Rattle.machine.specs.Settings.{settingCount}
+use Rattle.machine.specs.Form.{lengthFits, wellFormed}
+use Rattle.model.specs.History.{isTimestamp, Change, program, withdrawn}
+use Rattle.model.specs.Cabinet.{Cabinet, historyOf, find}
+use Rattle.model.specs.Tables.{Tables}
+use Rattle.model.specs.Form.{lengthsFit, inForm}
+
+-- the number of a refusal, and whether it applies
+pub record Test : Type 0 where
+  pub number : ℕ
+  pub applies : Bool
+
+abbrev pub test : ℕ → Bool → Test
+test n b = record { number = n; applies = b }
+
+-- the first refusal that applies, or 0
+abbrev pub firstOf : List Test → ℕ
+firstOf [] = 0
+firstOf (t ∷ tests) = cond (t .applies) (t .number) (firstOf tests)
+
+-- 1: a lent slice has another length than stated, or N is outside 1 to 4,096
+abbrev pub wrongLengths : ℕ → Tables → Test
+wrongLengths n T = test 1 (not (lengthsFit n T))
+
+-- the same of a call that is lent one slice more
+abbrev pub wrongLength : ℕ → Tables → ℕ → ℕ → Test
+wrongLength n T length stated = test 1 (not (lengthsFit n T && eqb length stated))
+
+-- 2: the tables are not in form
+abbrev pub notInForm : ℕ → Tables → Test
+notInForm n T = test 2 (not (inForm n T))
+
+-- 4: the timestamp is 0 or 2^64 − 1; value as of allows 2^64 − 1
+abbrev pub noTimestamp : ℕ → Test
+noTimestamp t = test 4 (not (isTimestamp t))
+
+abbrev pub noTime : ℕ → Test
+noTime t = test 4 (eqb t 0)
+
+-- 5: the setting number is above 1,023
+abbrev pub noSetting : ℕ → Test
+noSetting s = test 5 (leb settingCount s)
+
+-- 6: the program is over 256 bytes or no multiple of 8
+abbrev pub wrongProgramLength : List ℕ → Test
+wrongProgramLength p = test 6 (not (lengthFits p))
+
+-- 7: an instruction is not in the table, or a register, n or unused part is wrong
+abbrev pub malformed : List ℕ → Test
+malformed p = test 7 (not (wellFormed p))
+
+-- are two programs the same bytes
+abbrev pub sameBytes : List ℕ → List ℕ → Bool
+sameBytes [] [] = true
+sameBytes [] (y ∷ ys) = false
+sameBytes (x ∷ xs) [] = false
+sameBytes (x ∷ xs) (y ∷ ys) = eqb x y && sameBytes xs ys
+
+abbrev pub isHeld : Option Change → Bool
+isHeld none = false
+isHeld (some c) = true
+
+abbrev pub holdsOther : Option Change → List ℕ → Bool
+holdsOther none p = false
+holdsOther (some c) p = not (sameBytes (program c) p)
+
+abbrev pub isWithdrawn : Option Change → Bool
+isWithdrawn none = false
+isWithdrawn (some c) = withdrawn c
+
+-- 8: the timestamp is held with another program
+abbrev pub heldOtherwise : Cabinet → ℕ → List ℕ → Test
+heldOtherwise c t p = test 8 (holdsOther (find t (historyOf c)) p)
+
+-- 9: the held count equals N and the timestamp is not held
+abbrev pub full : ℕ → Cabinet → ℕ → Test
+full n c t = test 9 (leb n (length (c .changes)) && not (isHeld (find t (historyOf c))))
+
+-- 10: the timestamp is not held
+abbrev pub notHeld : Cabinet → ℕ → Test
+notHeld c t = test 10 (not (isHeld (find t (historyOf c))))
+
+-- 11: the change is withdrawn already
+abbrev pub withdrawnAlready : Cabinet → ℕ → Test
+withdrawnAlready c t = test 11 (isWithdrawn (find t (historyOf c)))

@@ -1,0 +1,42 @@
+// The types of the calls' answers. A refusal is given by its number in document 01, "Turned down, in checking order".
+
+// Set up, take in, withdraw, take in a package, plain run.
+pub enum Answer {
+    Done,
+    // The same timestamp is held with the same program.
+    Held,
+    Refused(u8),
+}
+
+// A turn: idle, or what was done with the change of a timestamp.
+pub enum Turned {
+    Idle,
+    Ran(u64),
+    Stood(u64),
+    Cleared(u64),
+    Refused(u8),
+}
+
+// How many turns of a drain ran, stood and were cleared.
+pub struct Totals {
+    pub ran: usize,
+    pub stood: usize,
+    pub cleared: usize,
+}
+
+pub enum Drained {
+    Counted(Totals),
+    Refused(u8),
+}
+
+// Current value, value as of a timestamp.
+pub enum Value {
+    Is(i32),
+    Refused(u8),
+}
+
+// The standing of a timestamp: status and flag.
+pub enum Standing {
+    At(u16, u16),
+    Refused(u8),
+}

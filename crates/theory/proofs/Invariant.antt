@@ -1,0 +1,53 @@
+-- What holds of the history, the view and the turns so far, between any two calls.
+use mathlib.Core.Path.{_≡_, refl}
+use mathlib.Core.Bool.{true, false}
+use mathlib.Core.List.{List, [], _∷_}
+use mathlib.Core.Option.{none, some}
+use Prim.Native.Nat.{ℕ}
+use lib.IntN.{ℤ}
+use Rattle.machine.specs.Settings.{Environment}
+use Rattle.model.specs.History.{start, New, Valid, Invalid, empty, runLists, Change, change, History, afterChange, afterAll, allSettings}
+use Rattle.model.specs.Figure.{Event}
+use Rattle.model.specs.Book.{Book, bookedAt, bookOf}
+use Rattle.model.specs.Sound.{Rising}
+use Rattle.theory.specs.Demand.{lastRan}
+
+-- the lists of a change by its status and flag, where env is the settings as of it: New, or Valid and withdrawn: none; Valid: those of a run on these settings; Invalid: those of a run on some settings
+abbrev pub Consistent : Environment → Change → Type 0
+Consistent env (change t p New w l) = l ≡ empty
+Consistent env (change t p Valid true l) = l ≡ empty
+Consistent env (change t p Valid false l) = runLists env p ≡ l
+Consistent env (change t p Invalid true l) = Unit {0}
+Consistent env (change t p Invalid false l) = (env' : Environment) × (runLists env' p ≡ l)
+
+abbrev pub AllConsistent : Environment → History → Type 0
+AllConsistent env [] = Unit {0}
+AllConsistent env (c ∷ h) = Consistent env c × AllConsistent (afterChange c env) h
+
+-- a New change has not run; the lists of a change that is neither New nor withdrawn are those that its last run put there
+abbrev pub Traced : List Event → Change → Type 0
+Traced events (change t p New w l) = lastRan events t ≡ none
+Traced events (change t p Valid true l) = Unit {0}
+Traced events (change t p Valid false l) = lastRan events t ≡ some l
+Traced events (change t p Invalid true l) = Unit {0}
+Traced events (change t p Invalid false l) = lastRan events t ≡ some l
+
+abbrev pub AllTraced : List Event → History → Type 0
+AllTraced events [] = Unit {0}
+AllTraced events (c ∷ h) = Traced events c × AllTraced events h
+
+-- the book has no change of this timestamp
+abbrev pub NotBooked : ℕ → Book → Type 0
+NotBooked t [] = Unit {0}
+NotBooked t (b ∷ book) = ¬ (bookedAt b ≡ t) × NotBooked t book
+
+pub record Invariant (events : List Event) (h : History) (view : List ℤ) : Type 0 where
+  pub consistent : AllConsistent start h
+  pub viewed : view ≡ allSettings (afterAll h start)
+  pub rising : Rising 0 h
+  pub traced : AllTraced events h
+  pub unheld : (t : ℕ) → NotBooked t (bookOf h) → lastRan events t ≡ none
+
+-- nothing held, every setting at its start, no turns
+pub empty-invariant : Invariant [] [] (allSettings start)
+empty-invariant = record { consistent = tt; viewed = refl; rising = tt; traced = tt; unheld = λ t n. refl }

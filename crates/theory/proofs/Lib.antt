@@ -1,0 +1,9 @@
+pub mod Events
+pub mod Invariant
+pub mod Marking
+pub mod Turns
+pub mod Drains
+pub mod Items
+pub mod Reached
+pub mod AnyTables
+pub mod Demand
