@@ -122,13 +122,13 @@ module _ (n : ℕ) (c : Cabinet) (s : Sound n c) where
   encode-place : (k : ℕ) → k < length (c .changes) → getD (encode n c .order) k 0 < length (c .changes)
   encode-place k h = rw (order-at n c k) (below-at (length (c .changes)) (c .order) k (s .placed .below) (omega (arith, s .placed .counted)))
 
-  ordered : (k : ℕ) → k < length (c .changes) → timestampOf (encode n c) k ≡ timestamp (getD (historyOf c) k blank)
+  ordered : (k : ℕ) → k < length (c .changes) → timestampOf (encode n c .order) (encode n c .timestamps) k ≡ timestamp (getD (historyOf c) k blank)
   ordered k h =
       timestamp-at n c (getD (encode n c .order) k 0)
       ∙ ap (λ (i : ℕ). timestamp (getD (c .changes) i blank)) (order-at n c k)
       ∙ ap timestamp (sym (changesAt-get (c .changes) (c .order) k (omega (arith, s .placed .counted))))
 
-  encode-rising : (k : ℕ) → suc k < length (c .changes) → timestampOf (encode n c) k < timestampOf (encode n c) (suc k)
+  encode-rising : (k : ℕ) → suc k < length (c .changes) → timestampOf (encode n c .order) (encode n c .timestamps) k < timestampOf (encode n c .order) (encode n c .timestamps) (suc k)
   encode-rising k h =
       rw (ordered k (omega arith), ordered (suc k) h)
       (rising-next (historyOf c) 0 k (s .rising) (omega (arith, changesAt-length (c .changes) (c .order), s .placed .counted)))

@@ -123,7 +123,7 @@ pub record Head (T : Tables) (i : ℕ) : Type 0 where
   pub withdrawn : getD (T .withdrawn) i 0 ≤ 1
   pub new : getD (T .status) i 0 ≡ 0 → (getD (T .reads) i 0 ≡ 0) × (getD (T .writes) i 0 ≡ 0)
 
-head-of : (T : Tables) (i : ℕ) → headFits T i ≡ true → Head T i
+head-of : (T : Tables) (i : ℕ) → headFits (T .timestamps) (T .status) (T .withdrawn) (T .reads) (T .writes) i ≡ true → Head T i
 head-of T i e =
     let t = getD (T .timestamps) i 0 in
     let s = getD (T .status) i 0 in
@@ -145,7 +145,7 @@ head-of T i e =
           (eqb-true r 0 (u .0), eqb-true w 0 (u .1));
     }
 
-head-fits : (T : Tables) (i : ℕ) → Head T i → headFits T i ≡ true
+head-fits : (T : Tables) (i : ℕ) → Head T i → headFits (T .timestamps) (T .status) (T .withdrawn) (T .reads) (T .writes) i ≡ true
 head-fits T i h =
     rw (lt-ltb _ _ (h .above), lt-ltb _ _ (h .below), le-leb _ _ (h .status), le-leb _ _ (h .withdrawn), go (eqb (getD (T .status) i 0) 0) refl)
   where
@@ -159,13 +159,13 @@ pub record Programmed (T : Tables) (i : ℕ) : Type 0 where
   pub formed : wellFormed (programAt T i) ≡ true
   pub rest : allZero (restOf 256 i (8 * getD (T .lengths) i 0) (T .programs)) ≡ true
 
-program-of : (T : Tables) (i : ℕ) → programFits T i ≡ true → Programmed T i
+program-of : (T : Tables) (i : ℕ) → programFits (T .lengths) (T .programs) i ≡ true → Programmed T i
 program-of T i e =
     let e0 = both (leb (getD (T .lengths) i 0) 32) e in
     let e1 = both (wellFormed (programAt T i)) (e0 .1) in
     record { short = leb-true (getD (T .lengths) i 0) 32 (e0 .0); formed = e1 .0; rest = both (allZero (restOf 256 i (8 * getD (T .lengths) i 0) (T .programs))) (e1 .1) .0 }
 
-program-fits : (T : Tables) (i : ℕ) → Programmed T i → programFits T i ≡ true
+program-fits : (T : Tables) (i : ℕ) → Programmed T i → programFits (T .lengths) (T .programs) i ≡ true
 program-fits T i h = rw (le-leb _ _ (h .short), h .formed, h .rest)
 
 -- what listFits tests
@@ -189,18 +189,18 @@ list-fits counts settings values i h = rw (le-leb _ _ (h .short), h .distinct, h
 previous : (k : ℕ) → suc k - 1 ≡ k
 previous k = omega arith
 
-order-place : (T : Tables) (n k : ℕ) → orderFits T n k ≡ true → getD (T .order) k 0 < n
+order-place : (T : Tables) (n k : ℕ) → orderFits (T .order) (T .timestamps) n k ≡ true → getD (T .order) k 0 < n
 order-place T n k e = ltb-true _ n (both (ltb (getD (T .order) k 0) n) e .0)
 
-order-rising : (T : Tables) (n k : ℕ) → orderFits T n (suc k) ≡ true → timestampOf T k < timestampOf T (suc k)
+order-rising : (T : Tables) (n k : ℕ) → orderFits (T .order) (T .timestamps) n (suc k) ≡ true → timestampOf (T .order) (T .timestamps) k < timestampOf (T .order) (T .timestamps) (suc k)
 order-rising T n k e =
     let later = either (eqb (suc k) 0) (both (ltb (getD (T .order) (suc k) 0) n) e .1) (ne-eqb (suc k) 0 (λ q. omega arith)) in
-    subst (λ (j : ℕ). timestampOf T j < timestampOf T (suc k)) (previous k) (ltb-true _ _ later)
+    subst (λ (j : ℕ). timestampOf (T .order) (T .timestamps) j < timestampOf (T .order) (T .timestamps) (suc k)) (previous k) (ltb-true _ _ later)
 
-order-fits : (T : Tables) (n k : ℕ) → getD (T .order) k 0 < n → ((j : ℕ) → suc j ≡ k → timestampOf T j < timestampOf T k) → orderFits T n k ≡ true
+order-fits : (T : Tables) (n k : ℕ) → getD (T .order) k 0 < n → ((j : ℕ) → suc j ≡ k → timestampOf (T .order) (T .timestamps) j < timestampOf (T .order) (T .timestamps) k) → orderFits (T .order) (T .timestamps) n k ≡ true
 order-fits T n zero h r = rw (lt-ltb _ _ h)
 order-fits T n (suc k) h r =
-    let later : ltb (timestampOf T (suc k - 1)) (timestampOf T (suc k)) ≡ true = lt-ltb _ _ (subst (λ (j : ℕ). timestampOf T j < timestampOf T (suc k)) (sym (previous k)) (r k refl)) in
+    let later : ltb (timestampOf (T .order) (T .timestamps) (suc k - 1)) (timestampOf (T .order) (T .timestamps) (suc k)) ≡ true = lt-ltb _ _ (subst (λ (j : ℕ). timestampOf (T .order) (T .timestamps) j < timestampOf (T .order) (T .timestamps) (suc k)) (sym (previous k)) (r k refl)) in
     rw (lt-ltb _ _ h, later) (or-true (eqb (suc k) 0))
 
 -- ---- the slots of places that are not held
@@ -235,7 +235,7 @@ pub record FormTests (n : ℕ) (T : Tables) : Type 0 where
   pub small : heldCount T ≤ n
   pub heads : (i : ℕ) → i < heldCount T → Head T i
   pub places : (k : ℕ) → k < heldCount T → getD (T .order) k 0 < heldCount T
-  pub rising : (k : ℕ) → suc k < heldCount T → timestampOf T k < timestampOf T (suc k)
+  pub rising : (k : ℕ) → suc k < heldCount T → timestampOf (T .order) (T .timestamps) k < timestampOf (T .order) (T .timestamps) (suc k)
   pub programs : (i : ℕ) → i < heldCount T → Programmed T i
   pub reads : (i : ℕ) → i < heldCount T → Listed (T .reads) (T .sources) (T .seen) i
   pub writes : (i : ℕ) → i < heldCount T → Listed (T .writes) (T .targets) (T .written) i
@@ -248,10 +248,10 @@ form-of n T e =
     let test : (j : ℕ) → getD (formTests n T) j true ≡ true = λ j. every-at (formTests n T) j e in
     record {
       small = leb-true _ _ (test 0);
-      heads = λ i h. head-of T i (all-below k (headFits T) (test 1) i h);
-      places = λ i h. order-place T k i (all-below k (orderFits T k) (test 2) i h);
-      rising = λ i h. order-rising T k i (all-below k (orderFits T k) (test 2) (suc i) h);
-      programs = λ i h. program-of T i (all-below k (programFits T) (test 3) i h);
+      heads = λ i h. head-of T i (all-below k (headFits (T .timestamps) (T .status) (T .withdrawn) (T .reads) (T .writes)) (test 1) i h);
+      places = λ i h. order-place T k i (all-below k (orderFits (T .order) (T .timestamps) k) (test 2) i h);
+      rising = λ i h. order-rising T k i (all-below k (orderFits (T .order) (T .timestamps) k) (test 2) (suc i) h);
+      programs = λ i h. program-of T i (all-below k (programFits (T .lengths) (T .programs)) (test 3) i h);
       reads = λ i h. list-of (T .reads) (T .sources) (T .seen) i (all-below k (listFits (T .reads) (T .sources) (T .seen)) (test 4) i h);
       writes = λ i h. list-of (T .writes) (T .targets) (T .written) i (all-below k (listFits (T .writes) (T .targets) (T .written)) (test 5) i h);
       unused = unused-of T k (test 6);
@@ -261,9 +261,9 @@ pub form-fits : (n : ℕ) (T : Tables) → FormTests n T → inForm n T ≡ true
 unfolding inForm
 form-fits n T f =
     let k = heldCount T in
-    let heads = below-all k (headFits T) (λ i h. head-fits T i (f .heads i h)) in
-    let order = below-all k (orderFits T k) (λ i h. order-fits T k i (f .places i h) (λ j e. subst (λ (m : ℕ). timestampOf T j < timestampOf T m) e (f .rising j (omega arith)))) in
-    let programs = below-all k (programFits T) (λ i h. program-fits T i (f .programs i h)) in
+    let heads = below-all k (headFits (T .timestamps) (T .status) (T .withdrawn) (T .reads) (T .writes)) (λ i h. head-fits T i (f .heads i h)) in
+    let order = below-all k (orderFits (T .order) (T .timestamps) k) (λ i h. order-fits T k i (f .places i h) (λ j e. subst (λ (m : ℕ). timestampOf (T .order) (T .timestamps) j < timestampOf (T .order) (T .timestamps) m) e (f .rising j (omega arith)))) in
+    let programs = below-all k (programFits (T .lengths) (T .programs)) (λ i h. program-fits T i (f .programs i h)) in
     let reads = below-all k (listFits (T .reads) (T .sources) (T .seen)) (λ i h. list-fits (T .reads) (T .sources) (T .seen) i (f .reads i h)) in
     let writes = below-all k (listFits (T .writes) (T .targets) (T .written)) (λ i h. list-fits (T .writes) (T .targets) (T .written) i (f .writes i h)) in
     rw (le-leb _ _ (f .small), heads, order, programs, reads, writes, unused-fits T k (f .unused))

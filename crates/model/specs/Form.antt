@@ -9,7 +9,7 @@ use Rattle.words.specs.Words.{isZero}
 use Rattle.machine.specs.Settings.{settingCount}
 use Rattle.machine.specs.Form.{allBelow, wellFormed}
 use Rattle.model.specs.History.{isTimestamp}
-use Rattle.model.specs.Tables.{Tables, heldCount, slots, programAt}
+use Rattle.model.specs.Tables.{Tables, heldCount, slots}
 
 -- does every test pass
 abbrev pub every : List Bool → Bool
@@ -59,22 +59,22 @@ abbrev pub restOf : {A : Type 0} → ℕ → ℕ → ℕ → List A → List A
 restOf width place count l = take (width - count) (drop (width * place + count) l)
 
 -- the timestamp is valid; status is 0 New, 1 Valid or 2 Invalid; withdrawn is 0 or 1; a New change's lists are empty
-abbrev pub headFits : Tables → ℕ → Bool
-headFits T i =
+abbrev pub headFits : List ℕ → List ℕ → List ℕ → List ℕ → List ℕ → ℕ → Bool
+headFits timestamps status withdrawn reads writes i =
     every
-    (isTimestamp (getD (T .timestamps) i 0)
-    ∷ leb (getD (T .status) i 0) 2
-    ∷ leb (getD (T .withdrawn) i 0) 1
-    ∷ (not (eqb (getD (T .status) i 0) 0) || (eqb (getD (T .reads) i 0) 0 && eqb (getD (T .writes) i 0) 0))
+    (isTimestamp (getD timestamps i 0)
+    ∷ leb (getD status i 0) 2
+    ∷ leb (getD withdrawn i 0) 1
+    ∷ (not (eqb (getD status i 0) 0) || (eqb (getD reads i 0) 0 && eqb (getD writes i 0) 0))
     ∷ [])
 
 -- at most 32 instructions, each well formed, and zeros behind them
-abbrev pub programFits : Tables → ℕ → Bool
-programFits T i =
+abbrev pub programFits : List ℕ → List ℕ → ℕ → Bool
+programFits lengths programs i =
     every
-    (leb (getD (T .lengths) i 0) 32
-    ∷ wellFormed (programAt T i)
-    ∷ allZero (restOf 256 i (8 * getD (T .lengths) i 0) (T .programs))
+    (leb (getD lengths i 0) 32
+    ∷ wellFormed (slots 256 i (8 * getD lengths i 0) programs)
+    ∷ allZero (restOf 256 i (8 * getD lengths i 0) programs)
     ∷ [])
 
 -- settings below 1,024, none twice
@@ -97,11 +97,12 @@ listFits counts settings values i =
     ∷ [])
 
 -- the k-th entry of the order list is a place, and its timestamp is above that of the entry before it
-abbrev pub timestampOf : Tables → ℕ → ℕ
-timestampOf T k = getD (T .timestamps) (getD (T .order) k 0) 0
+abbrev pub timestampOf : List ℕ → List ℕ → ℕ → ℕ
+timestampOf order timestamps k = getD timestamps (getD order k 0) 0
 
-abbrev pub orderFits : Tables → ℕ → ℕ → Bool
-orderFits T n k = ltb (getD (T .order) k 0) n && (eqb k 0 || ltb (timestampOf T (k - 1)) (timestampOf T k))
+abbrev pub orderFits : List ℕ → List ℕ → ℕ → ℕ → Bool
+orderFits order timestamps n k =
+    ltb (getD order k 0) n && (eqb k 0 || ltb (timestampOf order timestamps (k - 1)) (timestampOf order timestamps k))
 
 -- the slots of places that are not held
 abbrev pub unusedTests : Tables → ℕ → List Bool
@@ -128,9 +129,9 @@ abbrev pub formTests : ℕ → Tables → List Bool
 formTests n T =
     let k = heldCount T in
     leb k n
-    ∷ allBelow k (headFits T)
-    ∷ allBelow k (orderFits T k)
-    ∷ allBelow k (programFits T)
+    ∷ allBelow k (headFits (T .timestamps) (T .status) (T .withdrawn) (T .reads) (T .writes))
+    ∷ allBelow k (orderFits (T .order) (T .timestamps) k)
+    ∷ allBelow k (programFits (T .lengths) (T .programs))
     ∷ allBelow k (listFits (T .reads) (T .sources) (T .seen))
     ∷ allBelow k (listFits (T .writes) (T .targets) (T .written))
     ∷ unusedFits T k
