@@ -10,7 +10,7 @@ use lib.Dec.{eqb}
 use lib.IntN.{ℤ, pos}
 use lib.ListN.{length, getD, set}
 use lib.Seq.{set-getD}
-use Rattle.machine.specs.Settings.{Entry, entry, named, entries, carry}
+use Rattle.machine.specs.Settings.{settingCount, Entry, entry, named, entries, Distinct, carry}
 use Rattle.machine.proofs.Cases.{by-test}
 
 -- a setting that stands among the first k is named by the first k entries
@@ -31,6 +31,15 @@ named-nowhere s zero ss vs h = refl
 named-nowhere s (suc k) [] vs h = refl
 named-nowhere s (suc k) (x ∷ ss) [] h = refl
 named-nowhere s (suc k) (x ∷ ss) (v ∷ vs) h = rw (ne-eqb x s (h 0 (omega arith))) (named-nowhere s k ss vs (λ i q. h (suc i) (omega arith)))
+
+-- each of the first k of a list of distinct entries is of a setting: what a caller of `carry` shows of the write list of a run
+pub entries-of-settings : (k i : ℕ) (ss : List ℕ) (vs : List ℤ) → Distinct (entries k ss vs) → i < k → k ≤ length ss → k ≤ length vs → getD ss i 0 < settingCount
+unfolding entries Distinct
+entries-of-settings zero i ss vs d h a b = absurd (omega arith)
+entries-of-settings (suc k) i [] vs d h a b = absurd (omega arith)
+entries-of-settings (suc k) i (x ∷ ss) [] d h a b = absurd (omega arith)
+entries-of-settings (suc k) zero (x ∷ ss) (v ∷ vs) d h a b = d .0
+entries-of-settings (suc k) (suc i) (x ∷ ss) (v ∷ vs) d h a b = entries-of-settings k i ss vs (d .2) (omega arith) (omega arith) (omega arith)
 
 -- an entry more, stored behind the first k
 pub entries-stored : (k : ℕ) (ss : List ℕ) (vs : List ℤ) (s : ℕ) (v : ℤ) → k < length ss → k < length vs → entries (k + 1) (set ss k s) (set vs k v) ≡ entries k ss vs ++ (entry s v ∷ [])

@@ -113,6 +113,7 @@ module _ (env : Environment) (bytes : List ℕ) (b : length bytes ≤ 256) where
       let n : 0 ≡ instructionCount bytes - r .place = omega arith in
       record {
         outcome = ap (λ (s : ℕ). outcomeOf (ended r s (r .writes)) l) (h .going) ∙ (λ i. runFrom env (r .place) (instructionsFrom bytes (r .place) (n i)) 0 (stateOf r l)) ∙ h .rest;
+        placed = h .within;
         reads = omega arith;
         writes = omega arith;
         sized = h .sized;
@@ -149,4 +150,4 @@ module _ (env : Environment) (bytes : List ℕ) (b : length bytes ≤ 256) where
 
     -- the record has ended
     pub has-ended : (r' .state ≡ 0 → ⊥) → Ran r' l' (run env bytes)
-    has-ended g = record { outcome = rw (ne-eqb (r' .state) 0 g) at turn; reads = omega (arith, s .reads); writes = omega (arith, s .writes); sized = s .sized }
+    has-ended g = record { outcome = rw (ne-eqb (r' .state) 0 g) at turn; placed = s .within; reads = omega (arith, s .reads); writes = omega (arith, s .writes); sized = s .sized }

@@ -36,12 +36,11 @@ setting-in s {k} q h = go (isBelow s settingCount) q
 
 -- ---- the ways on
 
-module _ (r : Run) (l : Lists) (h : Ready r) (z : Sized l) where
-  -- the record broken off by the fault of a state number
-  broken-off : (k : ℕ) (f : Fault) → eqb k 0 ≡ false → endingOf (ended r k 0) ≡ faulted f (r .place) → Stepped r (faults f (stateOf r l .reads)) (ended r k 0) l
-  unfolding entries
-  broken-off k f n t =
-      record { follows = λ rest. rw (n, t); rises = λ w. absurd (eqb-false k 0 n w); within = omega arith; reads = omega arith; writes = omega arith; sized = z }
+-- the record broken off by the fault of a state number
+broken-off : (r : Run) (l : Lists) → Ready r → Sized l → (k : ℕ) (f : Fault) → eqb k 0 ≡ false → endingOf (ended r k 0) ≡ faulted f (r .place) → Stepped r (faults f (stateOf r l .reads)) (ended r k 0) l
+unfolding entries
+broken-off r l h z k f n t =
+    record { follows = λ rest. rw (n, t); rises = λ w. absurd (eqb-false k 0 n w); within = omega arith; reads = omega arith; writes = omega arith; sized = z }
 
 -- the record past k more instructions, from a record f at the same place
 past : (r f : Run) (l : Lists) (k : ℕ) {state : State} → f .state ≡ 0 → f .place ≡ r .place → r .place + 1 + k ≤ 32 → f .reads ≤ r .place + 1 → f .writes ≤ r .place + 1 → Sized l → stateOf f l ≡ state → Stepped r (goes k state) (advanced f k) l

@@ -130,6 +130,7 @@ pub record Stepped (before : Run) (next : Next) (after : Run) (l : Lists) : Type
 -- a record and the arrays that hold an outcome
 pub record Ran (r : Run) (l : Lists) (o : Outcome) : Type 0 where
   pub outcome : outcomeOf r l ≡ o
+  pub placed : r .place ≤ 32
   pub reads : r .reads ≤ 32
   pub writes : r .writes ≤ 32
   pub sized : Sized l

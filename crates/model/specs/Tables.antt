@@ -25,6 +25,26 @@ pub record Tables : Type 0 where
   pub written : List ℤ
   pub view : List ℤ
 
+-- the tables as they are lent
+abbrev pub tables : List ℕ → List ℕ → List ℕ → List ℕ → List ℕ → List ℕ → List ℕ → List ℕ → List ℕ → List ℕ → List ℤ → List ℕ → List ℤ → List ℤ → Tables
+tables held timestamps order status withdrawn lengths programs reads writes sources seen targets written view =
+    record {
+      held = held;
+      timestamps = timestamps;
+      order = order;
+      status = status;
+      withdrawn = withdrawn;
+      lengths = lengths;
+      programs = programs;
+      reads = reads;
+      writes = writes;
+      sources = sources;
+      seen = seen;
+      targets = targets;
+      written = written;
+      view = view;
+    }
+
 -- the numbers of a status and of a flag
 abbrev pub statusNumber : Status → ℕ
 statusNumber New = 0

@@ -20,7 +20,7 @@ returns-2 c =
     (load-of-written _ _ _ (s .pre .0) z _ _ (n .before .before .setting-or .ensures) (n .before .if1 .left) (sym (n .names .ensures w (z .targets) (z .written)) ∙ c .before .if2 .taken))
 
 advance-requires : tie.Need-advance-requires
-advance-requires c κs = rw (c .assign .ensures) (omega (arith))
+advance-requires c κs = rw (c .assign .ensures) (omega arith)
 
 returns-3 : tie.Need-returns-3
 returns-3 c =
@@ -33,7 +33,7 @@ returns-3 c =
     (sym (m .names2 .ensures _ (z .sources) (z .seen)) ∙ c .before .before .if3 .taken))
 
 advance-requires-2 : tie.Need-advance-requires-2
-advance-requires-2 c κs = rw (c .assign2 .ensures, c .before .enter-read .ensures .0) (omega (arith))
+advance-requires-2 c κs = rw (c .assign2 .ensures, c .before .enter-read .ensures .0) (omega arith)
 
 returns-4 : tie.Need-returns-4
 returns-4 c =
@@ -53,15 +53,15 @@ load-spec =
     (λ c κs. tt)
     (λ c κs. tt)
     returns
-    (λ c. search (needs))
-    (λ c κs. search (needs))
+    (λ c. search needs)
+    (λ c κs. search needs)
     (λ c κs. tt)
     returns-2
-    (λ c κs. search (needs))
-    (λ c κs. search (needs))
+    (λ c κs. search needs)
+    (λ c κs. search needs)
     advance-requires
     returns-3
-    (λ c κs. search (needs))
-    (λ c κs. search (needs))
+    (λ c κs. search needs)
+    (λ c κs. search needs)
     advance-requires-2
     returns-4)
