@@ -1,0 +1,4 @@
+pub mod Answers
+pub mod Steps
+pub mod Split
+pub mod Model

@@ -1,0 +1,181 @@
+-- The searches in tables that are in form, as questions to the history that the tables hold.
+use mathlib.Core.Path.{_≡_, refl, sym, ap, subst, _∙_}
+use mathlib.Core.Bool.{true, _&&_}
+use mathlib.Core.List.{List, [], _∷_}
+use mathlib.Core.Option.{Option, none, some}
+use Prim.Native.Nat.{ℕ, zero, suc, _≤_, _<_}
+use native.Mathlib.Omega.{arith}
+use borrow.Author.Tests.{ltb-true, ltb-false, lt-ltb, eqb-true, eq-eqb}
+use lib.Dec.{eqb, ltb}
+use lib.IntN.{ℤ}
+use lib.ListN.{length, getD, take, drop, drop-of-length-le}
+use Rattle.machine.specs.Settings.{Environment, Entry, _orIf_, _orElse_, lookup}
+use Rattle.machine.proofs.Cases.{by-test, true-is-not-false, both}
+use Rattle.model.specs.History.{Change, timestamp, lists, History, afterAll, asOf}
+use Rattle.model.specs.Cabinet.{blank, historyOf, find}
+use Rattle.model.specs.Tables.{Tables, heldCount, writesAt, encode, decode}
+use Rattle.model.specs.Form.{lengthsFit, timestampOf, inForm}
+use Rattle.model.specs.Sound.{AllSound, Sound}
+use Rattle.model.proofs.Tests.{Lengths, FormTests, lengths-of, form-of}
+use Rattle.model.proofs.Figure.{NoneBelow}
+use Rattle.model.proofs.Order.{changesAt-length, changesAt-get}
+use Rattle.model.proofs.Tables.{held-count, timestamp-at, order-at, writes-at, writes-back}
+use Rattle.model.proofs.Form.{decode-sound, encode-decode}
+use Rattle.search.specs.Raw.{Placed, Listed, rankOf, positionOf, writesIn, previousWrite}
+use Rattle.search.proofs.Steps.{rank-within}
+use Rattle.search.proofs.Split.{Split, below-up-to, none-below-from, find-here, find-nowhere, after-next, split-as-of}
+
+short-writes : (changes : List Change) (i : ℕ) → AllSound changes → length (lists (getD changes i blank) .writes) ≤ 32
+short-writes [] i a = omega arith
+short-writes (c ∷ changes) zero a = a .0 .writes .short
+short-writes (c ∷ changes) (suc i) a = short-writes changes i (a .1)
+
+or-if-else : (x y : Option ℤ) (d : ℤ) → (x orElse (y orElse d)) ≡ ((x orIf y) orElse d)
+or-if-else none y d = refl
+or-if-else (some v) y d = refl
+
+-- ---- the searches in some tables
+
+abbrev pub historyIn : Tables → History
+historyIn T = historyOf (decode T)
+
+abbrev pub stampIn : Tables → ℕ → ℕ
+stampIn T k = timestampOf (T .order) (T .timestamps) k
+
+abbrev pub rankIn : Tables → ℕ → ℕ
+rankIn T t = rankOf (T .order) (T .timestamps) t (heldCount T)
+
+abbrev pub positionIn : Tables → ℕ → Option ℕ
+positionIn T t = positionOf (T .order) (T .timestamps) t (heldCount T)
+
+abbrev pub previousIn : Tables → ℕ → ℕ → Option ℤ
+previousIn T s k = previousWrite (T .order) (T .writes) (T .targets) (T .written) s k
+
+module _ (n : ℕ) (T : Tables) (e : lengthsFit n T ≡ true) (q : inForm n T ≡ true) where
+  -- ---- what the searches require
+
+  lengths : Lengths n T
+  lengths = lengths-of n T e
+
+  form : FormTests n T
+  form = form-of n T q
+
+  sound : Sound n (decode T)
+  sound = decode-sound n T e q
+
+  laid : encode n (decode T) ≡ T
+  laid = encode-decode n T e q
+
+  placed : (k limit : ℕ) → k ≤ heldCount T → limit ≡ n → Placed k (T .order) limit
+  placed k limit h m =
+      record { long = omega (arith, lengths .order, form .small); below = λ j l. omega (arith, form .places j (omega arith), form .small) }
+
+  -- for `rank` and `position`
+  pub placed-stamps : Placed (heldCount T) (T .order) (length (T .timestamps))
+  placed-stamps = placed (heldCount T) (length (T .timestamps)) (omega arith) (lengths .timestamps)
+
+  -- for `previous_write`
+  pub placed-writes : (k : ℕ) → k ≤ heldCount T → Placed k (T .order) (length (T .writes))
+  placed-writes k h = placed k (length (T .writes)) h (lengths .writes)
+
+  pub listed : Listed (T .writes) (T .targets) (T .written)
+  listed =
+      record {
+        capacity = omega (arith, lengths .writes, lengths .capacity);
+        target-slots = omega (arith, lengths .writes, lengths .targets);
+        value-slots = omega (arith, lengths .writes, lengths .written);
+        short = λ i. rw (← laid, writes-at n (decode T) i) (short-writes (decode T .changes) i (sound .each));
+      }
+
+  -- ---- the tables and the history
+
+  pub held-changes : length (decode T .changes) ≡ heldCount T
+  held-changes = sym (held-count n (decode T)) ∙ ap heldCount laid
+
+  pub history-length : length (historyIn T) ≡ heldCount T
+  history-length = changesAt-length (decode T .changes) (decode T .order) ∙ sound .placed .counted ∙ held-changes
+
+  pub place-of : (k : ℕ) → getD (T .order) k 0 ≡ getD (decode T .order) k 0
+  place-of k = ap (λ (U : Tables). getD (U .order) k 0) (sym laid) ∙ order-at n (decode T) k
+
+  module _ (k : ℕ) (h : k < heldCount T) where
+    pub change-of : getD (historyIn T) k blank ≡ getD (decode T .changes) (getD (decode T .order) k 0) blank
+    change-of = changesAt-get (decode T .changes) (decode T .order) k (omega (arith, sound .placed .counted, held-changes))
+
+    -- the change at a position of the order list
+    by-place : getD (decode T .changes) (getD (T .order) k 0) blank ≡ getD (historyIn T) k blank
+    by-place = ap (λ (i : ℕ). getD (decode T .changes) i blank) (place-of k) ∙ sym change-of
+
+    stamped : stampIn T k ≡ timestamp (getD (historyIn T) k blank)
+    stamped =
+        ap (λ (U : Tables). getD (U .timestamps) (getD (T .order) k 0) 0) (sym laid)
+        ∙ timestamp-at n (decode T) (getD (T .order) k 0)
+        ∙ ap timestamp by-place
+
+    wrote : writesIn (T .writes) (T .targets) (T .written) (getD (T .order) k 0) ≡ lists (getD (historyIn T) k blank) .writes
+    wrote =
+        ap (λ (U : Tables). writesAt U (getD (T .order) k 0)) (sym laid)
+        ∙ writes-back n (decode T) sound (getD (T .order) k 0) (omega (arith, form .places k h, held-changes))
+        ∙ ap (λ (c : Change). lists c .writes) by-place
+
+  -- ---- the rank of a timestamp, and the change that has it
+
+  module _ (t : ℕ) where
+    -- from a position on none is below
+    rank-from : (m : ℕ) → m ≤ heldCount T → NoneBelow t (drop m (historyIn T)) → Split t (historyIn T) (rankOf (T .order) (T .timestamps) t m)
+    unfolding rankOf
+    rank-from zero h a = record { below = tt; above = a }
+    rank-from (suc m) h a =
+        let ih = rank-from m (omega arith) in
+        by-test (Split t (historyIn T)) (ltb (stampIn T m) t)
+        (λ b. record { below = below-up-to t 0 (historyIn T) m (sound .rising) (omega (arith, history-length)) (omega (arith, stamped m h, ltb-true (stampIn T m) t b)); above = a })
+        (λ b. ih (none-below-from t 0 (historyIn T) m (sound .rising) (omega (arith, history-length)) (omega (arith, stamped m h, ltb-false (stampIn T m) t b))))
+
+    -- every change below the rank is stamped below the timestamp, no other is
+    pub rank-splits : Split t (historyIn T) (rankIn T t)
+    rank-splits = rank-from (heldCount T) (omega arith) (rw (drop-of-length-le (historyIn T) {i = heldCount T} (omega (arith, history-length))) tt)
+
+    -- what a position says of the change of the timestamp
+    abbrev Finds : Option ℕ → Type 0
+    Finds none = find t (historyIn T) ≡ none
+    Finds (some k) = (k < heldCount T) × (find t (historyIn T) ≡ some (getD (decode T .changes) (getD (decode T .order) k 0) blank))
+
+    finds : Finds (positionIn T t)
+    finds =
+        let k = rankIn T t in
+        by-test Finds (ltb k (heldCount T) && eqb (stampIn T k) t)
+        (λ b.
+        let l : k < heldCount T = ltb-true k (heldCount T) (both (ltb k (heldCount T)) b .0) in
+        let same = eqb-true _ t (both (ltb k (heldCount T)) b .1) in
+        (l, find-here t (historyIn T) k rank-splits (omega (arith, history-length)) (sym (stamped k l) ∙ same) ∙ ap some (change-of k l)))
+        (λ b.
+        find-nowhere t (historyIn T) k rank-splits 0 (sound .rising)
+        (λ l same.
+        let l' : k < heldCount T = omega (arith, history-length) in
+        true-is-not-false (sym (rw (lt-ltb k (heldCount T) l', eq-eqb _ t (stamped k l' ∙ same))) ∙ b)))
+
+    pub position-none : positionIn T t ≡ none → find t (historyIn T) ≡ none
+    position-none p = subst Finds p finds
+
+    pub position-some : (k : ℕ) → positionIn T t ≡ some k → (k < heldCount T) × (find t (historyIn T) ≡ some (getD (decode T .changes) (getD (decode T .order) k 0) blank))
+    position-some k p = subst Finds p finds
+
+  -- ---- settings
+
+  module _ (env : Environment) (s : ℕ) where
+    -- the value of a setting after the changes below a position
+    pub after-below : (k : ℕ) → k ≤ heldCount T → afterAll (take k (historyIn T)) env s ≡ (previousIn T s k orElse env s)
+    unfolding previousWrite
+    after-below zero h = refl
+    after-below (suc k) h =
+        ap (λ (x : Environment). x s) (after-next (historyIn T) k env (omega (arith, history-length)))
+        ∙ ap (λ (v : ℤ). lookup (lists (getD (historyIn T) k blank) .writes) s orElse v) (after-below k (omega arith))
+        ∙ or-if-else (lookup (lists (getD (historyIn T) k blank) .writes) s) (previousIn T s k) (env s)
+        ∙ ap (λ (w : List Entry). (lookup w s orIf previousIn T s k) orElse env s) (sym (wrote k h))
+
+    -- its value as of a timestamp
+    pub as-of : (t : ℕ) → asOf t (historyIn T) env s ≡ (previousIn T s (rankIn T t) orElse env s)
+    as-of t =
+        let k = rankIn T t in
+        ap (λ (x : Environment). x s) (split-as-of t (historyIn T) k env (rank-splits t))
+        ∙ after-below k (rank-within (T .order) (T .timestamps) t (heldCount T))

@@ -1,0 +1,91 @@
+// Searches in the tables: a timestamp in the order list, and the write of a setting below a position of it.
+ghost use mathlib.Core.Path.{_≡_};
+ghost use Prim.Native.Nat.{ℕ, _+_, _*_, _<_, _≤_};
+ghost use lib.ListN.{length, getD, drop};
+ghost use Rattle.machine.specs.Settings.{lookup, entries};
+ghost use Rattle.search.specs.Raw.{rankOf, positionOf, foundOf, writtenOf, previousWrite, Placed, Listed};
+
+// The position in the order list of a timestamp.
+pub enum Found {
+    At(usize),
+    Nothing,
+}
+
+// The value that some writes give a setting.
+pub enum Written {
+    Value(i32),
+    Nothing,
+}
+
+// How many of the first count changes of the order list are stamped below t, counted down from the highest.
+pub fn rank(t: u64, count: usize, order: &[u16], timestamps: &[u64]) -> usize
+    requires { ⌜ Placed count (now order) (length (now timestamps)) ⌝ }
+    ensures { λ r. ⌜ r ≡ rankOf (now (order .entry)) (now (timestamps .entry)) t count ⌝ }
+{
+    let mut k = count;
+    while 0 < k {
+        let place = order[k - 1] as usize;
+        if timestamps[place] < t {
+            return k;
+        }
+        k -= 1;
+    }
+    0
+}
+
+// The position of the change of timestamp t among the first count of the order list.
+pub fn position(t: u64, count: usize, order: &[u16], timestamps: &[u64]) -> Found
+    requires { ⌜ Placed count (now order) (length (now timestamps)) ⌝ }
+    ensures { λ r. ⌜ r ≡ foundOf (positionOf (now (order .entry)) (now (timestamps .entry)) t count) ⌝ }
+{
+    let k = rank(t, count, order, timestamps);
+    if k < count {
+        let place = order[k] as usize;
+        let stamp = timestamps[place];
+        if stamp == t {
+            return Found::At(k);
+        }
+    }
+    Found::Nothing
+}
+
+// The value that the writes of a place give a setting: its last entry counts.
+pub fn written_at(s: u16, place: usize, count: usize, targets: &[u16], written: &[i32]) -> Written
+    requires { ⌜ (place < 4096) × (count ≤ 32) × (32 * place + 32 ≤ length (now targets)) × (32 * place + 32 ≤ length (now written)) ⌝ }
+    ensures { λ r. ⌜ r ≡ writtenOf (lookup (entries count (drop (32 * place) (now (targets .entry))) (drop (32 * place) (now (written .entry)))) s) ⌝ }
+{
+    let start = 32 * place;
+    let mut j = count;
+    while 0 < j {
+        j -= 1;
+        if targets[start + j] == s {
+            return Written::Value(written[start + j]);
+        }
+    }
+    Written::Nothing
+}
+
+// The value of the highest write of a setting by a change below a position of the order list: the previous writer's.
+pub fn previous_write(
+    s: u16,
+    position: usize,
+    order: &[u16],
+    writes: &[u16],
+    targets: &[u16],
+    written: &[i32],
+) -> Written
+    requires { ⌜ Placed position (now order) (length (now writes)) × Listed (now writes) (now targets) (now written) ⌝ }
+    ensures { λ r. ⌜ r ≡ writtenOf (previousWrite (now (order .entry)) (now (writes .entry)) (now (targets .entry)) (now (written .entry)) s position) ⌝ }
+{
+    let mut k = position;
+    while 0 < k {
+        k -= 1;
+        let place = order[k] as usize;
+        let size = writes[place] as usize;
+        let found = written_at(s, place, size, targets, written);
+        if let Written::Value(v) = found {
+            return Written::Value(v);
+        }
+    }
+    Written::Nothing
+}
