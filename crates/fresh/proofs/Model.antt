@@ -1,0 +1,109 @@
+-- The run of held changes on a list of values is the fresh run over the book of the cabinet that the tables hold.
+use mathlib.Core.Path.{_≡_, refl, sym, ap, ap₂, subst, _∙_}
+use mathlib.Core.Bool.{true, false}
+use mathlib.Core.List.{List, [], _∷_, _++_}
+use Prim.Native.Nat.{ℕ, zero, suc, _≤_, _<_}
+use native.Mathlib.Omega.{arith}
+use lib.IntN.{pos}
+use lib.ListN.{length, getD, take}
+use lib.Seq.{take-suc, take-all}
+use Rattle.machine.specs.Settings.{settingCount, Environment, valueIn, Entry, _orElse_, lookup, Holds, Distinct, after, carry}
+use Rattle.machine.specs.Run.{run}
+use Rattle.machine.proofs.Settings.{carry-after, length-carry}
+use Rattle.machine.proofs.Frame.{run-holds, run-same}
+use Rattle.machine.proofs.Lists.{run-bounded}
+use Rattle.model.specs.History.{runLists, Change, change, program, withdrawn, History, allSettings}
+use Rattle.model.specs.Book.{freshAfter, freshEnd, bookedAs, bookOf}
+use Rattle.model.specs.Cabinet.{Cabinet, blank, historyOf}
+use Rattle.model.specs.Tables.{Tables, flagNumber, encode, heldCount, decode}
+use Rattle.model.specs.Form.{lengthsFit, inForm}
+use Rattle.model.specs.Sound.{Sound}
+use Rattle.model.proofs.Values.{value-allSettings}
+use Rattle.model.proofs.Tabulate.{length-tabulate}
+use Rattle.model.proofs.Tests.{lengths-of, form-of}
+use Rattle.model.proofs.Order.{changesAt-length, changesAt-get, below-at}
+use Rattle.model.proofs.Tables.{length-short, sound-at, held-count, order-at, withdrawn-at, program-back}
+use Rattle.model.proofs.Form.{decode-sound, encode-decode}
+use Rattle.fresh.specs.Raw.{programIn, runPlace, heldRun, Runnable}
+use Rattle.fresh.proofs.Filled.{filled-all}
+
+-- tables in form have what the code relies on
+pub runnable : (n : ℕ) (T : Tables) → lengthsFit n T ≡ true → inForm n T ≡ true → Runnable (heldCount T) (T .order) (T .withdrawn) (T .lengths) (T .programs)
+runnable n T e q =
+    let g = lengths-of n T e in
+    let f = form-of n T q in
+    record {
+      long = omega (arith, g .order, f .small);
+      limit = heldCount T;
+      small = omega (arith, g .capacity, f .small);
+      below = f .places;
+      flags = omega (arith, g .withdrawn, f .small);
+      sizes = omega (arith, g .lengths, f .small);
+      blocks = omega (arith, g .programs, f .small);
+      short = λ i h. f .programs i h .short;
+      formed = λ i h. f .programs i h .formed;
+    }
+
+-- ---- a run on the list of an environment's values
+
+module _ (env env' : Environment) (agree : (s : ℕ) → s < settingCount → env' s ≡ env s) where
+  holds-agree : (l : List Entry) → Distinct l → Holds env l → Holds env' l
+  unfolding Distinct Holds
+  holds-agree [] d h = tt
+  holds-agree (e ∷ l) d h = (agree (e .setting) (d .0) ∙ h .0, holds-agree l (d .2) (h .1))
+
+  -- runs on environments that agree on every setting are the same
+  run-agree : (bytes : List ℕ) → length bytes ≤ 256 → run env' bytes ≡ run env bytes
+  run-agree bytes h = run-same env env' bytes (holds-agree _ (run-bounded env bytes h .0 .distinct) (run-holds env bytes))
+
+module _ (env : Environment) where
+  -- a run on the list is the run on the environment
+  pub run-allSettings : (bytes : List ℕ) → length bytes ≤ 256 → run (valueIn (allSettings env)) bytes ≡ run env bytes
+  run-allSettings bytes h = run-agree env (valueIn (allSettings env)) (value-allSettings env) bytes h
+
+  -- writes carried into the list are carried into the environment
+  pub carry-allSettings : (writes : List Entry) → carry writes (allSettings env) ≡ allSettings (after writes env)
+  carry-allSettings writes =
+      filled-all (after writes env) (pos 0) settingCount (carry writes (allSettings env)) (length-carry writes (allSettings env) ∙ length-tabulate settingCount env)
+      (λ s h. ap (λ v. lookup writes s orElse v) (sym (value-allSettings env s h)) ∙ sym (carry-after writes (allSettings env) s (rw (length-tabulate settingCount env) h)))
+
+  -- a change run on the list
+  place-fresh : (flags lengths programs : List ℕ) (place : ℕ) (x : Change) → getD flags place 0 ≡ flagNumber (withdrawn x) → programIn lengths programs place ≡ program x → length (program x) ≤ 256 → runPlace flags lengths programs place (allSettings env) ≡ allSettings (freshAfter (bookedAs x) env)
+  unfolding runLists lookup
+  place-fresh flags lengths programs place (change t p s true l) f e h = rw f
+  place-fresh flags lengths programs place (change t p s false l) f e h = rw (f, e, run-allSettings p h) (carry-allSettings (run env p .writes))
+
+-- ---- the order list, one change after the other
+
+-- the last change of a history is run last
+fresh-last : (h : History) (x : Change) (env : Environment) → freshEnd (bookOf (h ++ (x ∷ []))) env ≡ freshAfter (bookedAs x) (freshEnd (bookOf h) env)
+fresh-last [] x env = refl
+fresh-last (y ∷ h) x env = fresh-last h x (freshAfter (bookedAs y) env)
+
+module _ (n : ℕ) (c : Cabinet) (s : Sound n c) (env : Environment) where
+  -- the first changes of the order list are the first of the history
+  held-first : (k : ℕ) → k ≤ length (c .order) → heldRun (encode n c .order) (encode n c .withdrawn) (encode n c .lengths) (encode n c .programs) (allSettings env) k ≡ allSettings (freshEnd (bookOf (take k (historyOf c))) env)
+  unfolding heldRun
+  held-first zero h = refl
+  held-first (suc k) h =
+      let first = take k (historyOf c) in
+      let i = getD (c .order) k 0 in
+      let x = getD (c .changes) i blank in
+      let held = below-at (length (c .changes)) (c .order) k (s .placed .below) h in
+      ap₂ (runPlace (encode n c .withdrawn) (encode n c .lengths) (encode n c .programs)) (order-at n c k) (held-first k (omega arith))
+      ∙ place-fresh (freshEnd (bookOf first) env) (encode n c .withdrawn) (encode n c .lengths) (encode n c .programs) i x (withdrawn-at n c i) (program-back n c s i held) (length-short (program x) (sound-at (c .changes) i (s .each) held .sized))
+      ∙ ap allSettings (sym (fresh-last first x env))
+      ∙ ap (λ l. allSettings (freshEnd (bookOf (first ++ (l ∷ []))) env)) (sym (changesAt-get (c .changes) (c .order) k h))
+      ∙ ap (λ l. allSettings (freshEnd (bookOf l) env)) (sym (take-suc (historyOf c) k blank (rw (changesAt-length (c .changes) (c .order)) h)))
+
+  held-encoded : heldRun (encode n c .order) (encode n c .withdrawn) (encode n c .lengths) (encode n c .programs) (allSettings env) (heldCount (encode n c)) ≡ allSettings (freshEnd (bookOf (historyOf c)) env)
+  held-encoded =
+      ap (heldRun (encode n c .order) (encode n c .withdrawn) (encode n c .lengths) (encode n c .programs) (allSettings env)) (held-count n c ∙ sym (s .placed .counted))
+      ∙ held-first (length (c .order)) (omega arith)
+      ∙ ap (λ h. allSettings (freshEnd (bookOf h) env)) (take-all (length (c .order)) (historyOf c) (omega (arith, changesAt-length (c .changes) (c .order))))
+
+-- the held changes of tables in form, run on the values of an environment, give those at the end of the fresh run over their book
+pub held-fresh : (n : ℕ) (T : Tables) → lengthsFit n T ≡ true → inForm n T ≡ true → (env : Environment) → heldRun (T .order) (T .withdrawn) (T .lengths) (T .programs) (allSettings env) (heldCount T) ≡ allSettings (freshEnd (bookOf (historyOf (decode T))) env)
+held-fresh n T e q env =
+    subst (λ (U : Tables). heldRun (U .order) (U .withdrawn) (U .lengths) (U .programs) (allSettings env) (heldCount U) ≡ allSettings (freshEnd (bookOf (historyOf (decode T))) env)) (encode-decode n T e q)
+    (held-encoded n (decode T) (decode-sound n T e q) env)

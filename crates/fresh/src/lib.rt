@@ -1,0 +1,75 @@
+// Start values, and the run of held changes on settings of their own, in timestamp order.
+use interpreter::run::carry;
+use interpreter::run::run_program;
+ghost use mathlib.Core.Path.{_≡_};
+ghost use mathlib.Core.Bool.{true};
+ghost use Prim.Native.Nat.{_≤_};
+ghost use lib.ListN.{length};
+ghost use Rattle.machine.specs.Settings.{valueIn, carry};
+ghost use Rattle.machine.specs.Form.{wellFormed};
+ghost use Rattle.machine.specs.Run.{run};
+ghost use Rattle.model.specs.History.{start, allSettings};
+ghost use Rattle.fresh.specs.Raw.{heldRun, Runnable};
+
+// The start value of a setting.
+pub fn start_value(s: usize) -> i32
+    ensures { λ r. ⌜ r ≡ start s ⌝ }
+{
+    0
+}
+
+// Every setting set to its start value.
+pub fn fill_start(values: &mut [i32])
+    requires { ⌜ length (now values) ≡ 1024 ⌝ }
+    ensures { λ _. ⌜ now (values .exit) ≡ allSettings start ⌝ }
+{
+    let mut s = 0;
+    while s < 1024 {
+        values[s] = start_value(s);
+        s += 1;
+    }
+}
+
+// A program run on some values, and its writes carried into them.
+pub fn apply(program: &[u8], values: &mut [i32])
+    requires { ⌜ (length (now program) ≤ 256) × (wellFormed (now program) ≡ true) × (length (now values) ≡ 1024) ⌝ }
+    ensures { λ _. ⌜ now (values .exit) ≡ carry (run (valueIn (now (values .entry))) (now (program .entry)) .writes) (now (values .entry)) ⌝ }
+{
+    let mut sources = [0u16; 32];
+    let mut seen = [0i32; 32];
+    let mut targets = [0u16; 32];
+    let mut written = [0i32; 32];
+    let run = run_program(
+        program,
+        values,
+        &mut sources,
+        &mut seen,
+        &mut targets,
+        &mut written,
+    );
+    carry(&targets, &written, run.writes, values);
+}
+
+// The first count changes of the order list run on some values, one after the other, withdrawn ones passed over.
+pub fn run_held(
+    count: usize,
+    order: &[u16],
+    withdrawn: &[u16],
+    lengths: &[u16],
+    programs: &[u8],
+    values: &mut [i32],
+)
+    requires { ⌜ Runnable count (now order) (now withdrawn) (now lengths) (now programs) × (length (now values) ≡ 1024) ⌝ }
+    ensures { λ _. ⌜ now (values .exit) ≡ heldRun (now (order .entry)) (now (withdrawn .entry)) (now (lengths .entry)) (now (programs .entry)) (now (values .entry)) count ⌝ }
+{
+    let mut k = 0;
+    while k < count {
+        let place = order[k] as usize;
+        if withdrawn[place] == 0 {
+            let begin = 256 * place;
+            let end = begin + 8 * (lengths[place] as usize);
+            apply(&programs[begin..end], values);
+        }
+        k += 1;
+    }
+}
