@@ -37,6 +37,9 @@ pub record Reply (A : Type 0) : Type 0 where
   pub answer : A
   pub tables : Tables
 
+abbrev pub reply : {A : Type 0} → A → Tables → Reply A
+reply a T = record { answer = a; tables = T }
+
 -- the reply of a call whose refusal is r: refused with the tables as they were, or what the call does
 abbrev pub unless : {A : Type 0} → ℕ → (ℕ → A) → Tables → Reply A → Reply A
 unless r refused T reply = cond (eqb r 0) reply (record { answer = refused r; tables = T })
@@ -110,6 +113,9 @@ pub record PackageReply : Type 0 where
   pub tables : Tables
   pub answers : List ℕ
 
+abbrev pub packageReply : Answer → Tables → List ℕ → PackageReply
+packageReply a T answers = record { answer = a; tables = T; answers = answers }
+
 unfoldable pub takeInPackage : ℕ → Tables → List ℕ → List ℕ → PackageReply
 takeInPackage n T bytes answers =
     let c = decode T in
@@ -181,6 +187,9 @@ standing n T t =
 pub record PlainReply : Type 0 where
   pub answer : Answer
   pub settings : List ℤ
+
+abbrev pub plainReply : Answer → List ℤ → PlainReply
+plainReply a settings = record { answer = a; settings = settings }
 
 unfoldable pub plainRun : ℕ → Tables → List ℤ → PlainReply
 plainRun n T settings =
