@@ -1,0 +1,4 @@
+pub mod Zeroed
+pub mod Checks
+pub mod Marks
+pub mod Parts

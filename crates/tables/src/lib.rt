@@ -1,0 +1,3 @@
+// The lent tables: their lengths, the test of their form, and set up.
+pub mod form;
+pub mod zeros;
