@@ -7,4 +7,9 @@
 #![forbid(unsafe_code)]
 #![warn(missing_docs)]
 
+pub mod calls;
 pub mod program;
+pub mod tables;
+
+#[cfg(test)]
+mod examples;

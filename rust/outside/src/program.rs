@@ -257,10 +257,10 @@ impl fmt::Debug for Outcome {
 }
 
 /// A set of settings, one bit for each.
-struct SettingSet([u64; SETTINGS / 64]);
+pub(crate) struct SettingSet([u64; SETTINGS / 64]);
 
 impl SettingSet {
-    const EMPTY: Self = Self([0; SETTINGS / 64]);
+    pub(crate) const EMPTY: Self = Self([0; SETTINGS / 64]);
 
     #[inline]
     fn contains(&self, setting: u16) -> bool {
@@ -269,7 +269,7 @@ impl SettingSet {
 
     /// Enters the setting and tells whether it is new.
     #[inline]
-    fn insert(&mut self, setting: u16) -> bool {
+    pub(crate) fn insert(&mut self, setting: u16) -> bool {
         let word = &mut self.0[usize::from(setting / 64)];
         let bit = 1 << (setting % 64);
         let new = *word & bit == 0;

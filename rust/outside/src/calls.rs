@@ -1,0 +1,128 @@
+//! The calls that set up the tables and that only read them.
+//!
+//! Document 01, "Calls" and "Turned down, in checking order".
+
+use crate::program::{self, SETTINGS};
+use crate::tables::{check_lengths, in_form, Status, Tables, INFINITY};
+
+/// Why a call is turned down. "A refusal gives its number alone and alters no lent slice."
+#[derive(Clone, Copy, Debug, PartialEq, Eq)]
+pub enum Refusal {
+    /// "1. A lent slice has another length than stated, or N is outside 1 to 4,096".
+    Length,
+    /// "2. The tables are not in form."
+    Form,
+    /// "4. The timestamp is 0 or 2^64 − 1; value as of allows 2^64 − 1."
+    Timestamp,
+    /// "5. The setting number is above 1,023."
+    Setting,
+    /// "10. The timestamp is not held (withdraw, standing)."
+    NotHeld,
+}
+
+impl Refusal {
+    /// The number of the refusal.
+    pub fn number(self) -> u8 {
+        match self {
+            Self::Length => 1,
+            Self::Form => 2,
+            Self::Timestamp => 4,
+            Self::Setting => 5,
+            Self::NotHeld => 10,
+        }
+    }
+}
+
+/// What [`standing`] answers.
+#[derive(Clone, Copy, Debug, PartialEq, Eq)]
+#[allow(missing_docs)]
+pub struct Standing {
+    pub status: Status,
+    pub withdrawn: bool,
+}
+
+/// "Set up (every table to 0, the view to the start)". Refusal 1 is "all that set up tests".
+pub fn set_up(n: usize, tables: &mut Tables) -> Result<(), Refusal> {
+    refuse_unless(check_lengths(n, tables), Refusal::Length)?;
+    *tables = Tables::new(n);
+    Ok(())
+}
+
+/// "current value (from the view)".
+pub fn current_value(n: usize, tables: &Tables, setting: usize) -> Result<i32, Refusal> {
+    check(n, tables)?;
+    refuse_unless(setting < SETTINGS, Refusal::Setting)?;
+    Ok(tables.view[setting])
+}
+
+/// "value as of a timestamp (the highest write stamped below it, else the start)".
+pub fn value_as_of(
+    n: usize,
+    tables: &Tables,
+    timestamp: u64,
+    setting: usize,
+) -> Result<i32, Refusal> {
+    check(n, tables)?;
+    refuse_unless(timestamp != 0, Refusal::Timestamp)?;
+    refuse_unless(setting < SETTINGS, Refusal::Setting)?;
+    let highest = (0..tables.held_count())
+        .filter(|&place| tables.timestamps[place] < timestamp)
+        .flat_map(|place| {
+            let writes = tables.write_list(place);
+            writes.map(move |write| (tables.timestamps[place], write))
+        })
+        .filter(|(_, write)| usize::from(write.setting) == setting)
+        .max_by_key(|&(stamp, _)| stamp);
+    // "Every setting starts at 0."
+    Ok(highest.map_or(0, |(_, write)| write.value))
+}
+
+/// "standing of a timestamp (status and flag)".
+pub fn standing(n: usize, tables: &Tables, timestamp: u64) -> Result<Standing, Refusal> {
+    check(n, tables)?;
+    let valid = timestamp != 0 && timestamp != INFINITY;
+    refuse_unless(valid, Refusal::Timestamp)?;
+    let place = (0..tables.held_count())
+        .find(|&place| tables.timestamps[place] == timestamp)
+        .ok_or(Refusal::NotHeld)?;
+    Ok(Standing {
+        status: Status::from_number(tables.status[place]).expect("the tables are in form"),
+        withdrawn: tables.withdrawn[place] != 0,
+    })
+}
+
+/// "The plain run starts its own 1,024 settings at 0 and writes to a lent slice of 1,024 what all
+/// held changes leave, run in timestamp order, withdrawn ones passed over."
+pub fn plain_run(n: usize, tables: &Tables, lent: &mut [i32]) -> Result<(), Refusal> {
+    refuse_unless(lent.len() == SETTINGS, Refusal::Length)?;
+    check(n, tables)?;
+    let mut places: Vec<usize> = (0..tables.held_count())
+        .filter(|&place| tables.withdrawn[place] == 0)
+        .collect();
+    places.sort_unstable_by_key(|&place| tables.timestamps[place]);
+    let mut settings = [0; SETTINGS];
+    for place in places {
+        let outcome = program::run(tables.program(place), &settings);
+        for write in outcome.writes() {
+            settings[usize::from(write.setting)] = write.value;
+        }
+    }
+    lent.copy_from_slice(&settings);
+    Ok(())
+}
+
+/// Refusals 1 and 2, as every call but set up tests them.
+fn check(n: usize, tables: &Tables) -> Result<(), Refusal> {
+    refuse_unless(check_lengths(n, tables), Refusal::Length)?;
+    refuse_unless(in_form(n, tables), Refusal::Form)
+}
+
+fn refuse_unless(condition: bool, refusal: Refusal) -> Result<(), Refusal> {
+    match condition {
+        true => Ok(()),
+        false => Err(refusal),
+    }
+}
+
+#[cfg(test)]
+mod tests;

@@ -1,0 +1,237 @@
+use super::*;
+use crate::examples::{add, copy, four_changes, set, tables, Change, NEW, VALID};
+use crate::tables::MAX_CAPACITY;
+
+/// What each call that tests form answers on these tables, with arguments that are right and with
+/// arguments that a later refusal turns down.
+#[track_caller]
+fn assert_all_refused(n: usize, tables: &Tables, refusal: Refusal) {
+    for setting in [34, 1024] {
+        assert_eq!(current_value(n, tables, setting), Err(refusal));
+        for timestamp in [0, 10] {
+            let answer = value_as_of(n, tables, timestamp, setting);
+            assert_eq!(answer, Err(refusal));
+        }
+    }
+    for timestamp in [0, 10, 11] {
+        assert_eq!(standing(n, tables, timestamp), Err(refusal));
+    }
+    let mut lent = [-1; SETTINGS];
+    assert_eq!(plain_run(n, tables, &mut lent), Err(refusal));
+    assert_eq!(lent, [-1; SETTINGS]);
+}
+
+/// The settings other than 0 that a plain run leaves.
+fn plain(n: usize, tables: &Tables) -> Vec<(usize, i32)> {
+    let mut lent = [i32::MIN; SETTINGS];
+    assert_eq!(plain_run(n, tables, &mut lent), Ok(()));
+    let settings = lent.into_iter().enumerate();
+    settings.filter(|&(_, value)| value != 0).collect()
+}
+
+#[test]
+fn refusals_have_their_numbers() {
+    let refusals = [
+        (Refusal::Length, 1),
+        (Refusal::Form, 2),
+        (Refusal::Timestamp, 4),
+        (Refusal::Setting, 5),
+        (Refusal::NotHeld, 10),
+    ];
+    for (refusal, number) in refusals {
+        assert_eq!(refusal.number(), number);
+    }
+}
+
+#[test]
+fn lengths_come_before_form_and_form_before_arguments() {
+    let mut tables = four_changes();
+    tables.status[0] = 3;
+    assert_all_refused(6, &tables, Refusal::Form);
+    assert_all_refused(5, &tables, Refusal::Length);
+    tables.view.pop();
+    assert_all_refused(6, &tables, Refusal::Length);
+    assert_all_refused(0, &Tables::new(0), Refusal::Length);
+    assert_all_refused(4097, &Tables::new(4097), Refusal::Length);
+}
+
+// Set up.
+
+#[test]
+fn set_up_fills_every_table_with_0() {
+    let mut tables = four_changes();
+    tables.held[0] = 7;
+    tables.order.fill(9);
+    tables.view.fill(-1);
+    assert_eq!(set_up(6, &mut tables), Ok(()));
+    assert_eq!(tables, Tables::new(6));
+    let mut largest = Tables::new(MAX_CAPACITY);
+    assert_eq!(set_up(MAX_CAPACITY, &mut largest), Ok(()));
+}
+
+#[test]
+fn set_up_refused_alters_nothing() {
+    for n in [0, 5, 7, usize::MAX] {
+        let mut tables = four_changes();
+        assert_eq!(set_up(n, &mut tables), Err(Refusal::Length));
+        assert_eq!(tables, four_changes());
+    }
+}
+
+// Current value.
+
+#[test]
+fn the_current_value_is_that_of_the_view() {
+    let mut tables = four_changes();
+    assert_eq!(current_value(6, &tables, 34), Ok(-5));
+    assert_eq!(current_value(6, &tables, 0), Ok(0));
+    tables.view[1023] = i32::MIN;
+    assert_eq!(current_value(6, &tables, 1023), Ok(i32::MIN));
+}
+
+#[test]
+fn a_setting_above_1023_is_5() {
+    let tables = four_changes();
+    for setting in [1024, 65_536 + 34, (1 << 32) + 34, usize::MAX] {
+        assert_eq!(current_value(6, &tables, setting), Err(Refusal::Setting));
+        let answer = value_as_of(6, &tables, 35, setting);
+        assert_eq!(answer, Err(Refusal::Setting));
+    }
+}
+
+// Value as of a timestamp.
+
+#[test]
+fn p2_as_of_15_it_is_7() {
+    let change = |timestamp, value| Change {
+        timestamp,
+        status: VALID,
+        program: set(34, value),
+        writes: vec![(34, value)],
+        ..Change::default()
+    };
+    let tables = tables(2, &[1, 0], &[change(20, 5), change(10, 7)]);
+    for (timestamp, value) in [
+        (1, 0),
+        (10, 0),
+        (11, 7),
+        (15, 7),
+        (20, 7),
+        (21, 5),
+        (u64::MAX, 5),
+    ] {
+        assert_eq!(value_as_of(2, &tables, timestamp, 34), Ok(value));
+        assert_eq!(value_as_of(2, &tables, timestamp, 35), Ok(0));
+    }
+}
+
+#[test]
+fn writes_of_a_withdrawn_change_count_until_its_turn() {
+    let tables = four_changes();
+    assert_eq!(value_as_of(6, &tables, 40, 34), Ok(7));
+    assert_eq!(value_as_of(6, &tables, 41, 34), Ok(-5));
+}
+
+#[test]
+fn the_value_as_of_is_that_of_the_lists_and_not_of_the_programs_or_the_view() {
+    let mut tables = four_changes();
+    tables.view.fill(99);
+    // Change 20 is New: its program sets 34 to 9, its write list is empty.
+    assert_eq!(value_as_of(6, &tables, 25, 34), Ok(7));
+    tables.written[33] = 4;
+    assert_eq!(value_as_of(6, &tables, 25, 40), Ok(4));
+    assert_eq!(value_as_of(6, &tables, 25, 41), Ok(0));
+}
+
+#[test]
+fn a_timestamp_of_0_is_4_and_infinity_is_allowed() {
+    let tables = four_changes();
+    let as_of = |timestamp, setting| value_as_of(6, &tables, timestamp, setting);
+    assert_eq!(as_of(0, 34), Err(Refusal::Timestamp));
+    assert_eq!(as_of(0, 1024), Err(Refusal::Timestamp));
+    assert_eq!(as_of(u64::MAX, 34), Ok(-5));
+    assert_eq!(as_of(u64::MAX, 1024), Err(Refusal::Setting));
+    assert_eq!(as_of(1, 34), Ok(0));
+}
+
+// Standing.
+
+#[test]
+fn standing_is_status_and_flag() {
+    let tables = four_changes();
+    for (timestamp, status, withdrawn) in [
+        (10, Status::Valid, false),
+        (20, Status::New, false),
+        (30, Status::Valid, false),
+        (40, Status::Invalid, true),
+    ] {
+        let expected = Standing { status, withdrawn };
+        assert_eq!(standing(6, &tables, timestamp), Ok(expected));
+    }
+}
+
+#[test]
+fn standing_refuses_4_then_10() {
+    let tables = four_changes();
+    for timestamp in [0, u64::MAX] {
+        let answer = standing(6, &tables, timestamp);
+        assert_eq!(answer, Err(Refusal::Timestamp));
+    }
+    for timestamp in [1, 9, 11, 50, (1 << 32) + 10, u64::MAX - 1] {
+        assert_eq!(standing(6, &tables, timestamp), Err(Refusal::NotHeld));
+    }
+}
+
+// Plain run.
+
+#[test]
+fn the_plain_run_goes_by_timestamp_and_passes_over_withdrawn_changes() {
+    assert_eq!(plain(6, &four_changes()), [(34, 9), (40, 3), (50, 9)]);
+    let mut tables = four_changes();
+    tables.withdrawn.fill(0);
+    assert_eq!(plain(6, &tables), [(34, -5), (40, 3), (50, 9)]);
+    assert_eq!(plain(6, &Tables::new(6)), []);
+}
+
+#[test]
+fn the_plain_run_uses_neither_the_lists_nor_the_status_nor_the_view() {
+    let mut tables = four_changes();
+    tables.view.fill(99);
+    tables.status[..3].fill(VALID);
+    tables.written[0] = 99;
+    tables.targets[32] = 99;
+    assert_eq!(plain(6, &tables), [(34, 9), (40, 3), (50, 9)]);
+}
+
+#[test]
+fn each_run_sees_what_those_before_it_leave() {
+    let change = |timestamp, program| Change {
+        timestamp,
+        status: NEW,
+        program,
+        ..Change::default()
+    };
+    let changes = [
+        change(50, copy(34, 50)),
+        change(40, [set(60, 1), set(60, 1)].concat()),
+        change(30, add(34, 1)),
+        change(20, add(34, 1)),
+        change(10, set(34, i32::MAX - 1)),
+    ];
+    let tables = tables(5, &[4, 3, 2, 1, 0], &changes);
+    // Change 40 faults and writes nothing.
+    assert_eq!(plain(5, &tables), [(34, i32::MIN), (50, i32::MIN)]);
+}
+
+#[test]
+fn the_plain_run_refuses_a_slice_that_is_not_1024_long() {
+    let mut tables = four_changes();
+    for length in [0, 1, 1023, 1025, 2048] {
+        let mut lent = vec![-1; length];
+        assert_eq!(plain_run(6, &tables, &mut lent), Err(Refusal::Length));
+        assert_eq!(lent, vec![-1; length]);
+    }
+    tables.status[0] = 3;
+    let answer = plain_run(6, &tables, &mut [0; 1023]);
+    assert_eq!(answer, Err(Refusal::Length));
+}

@@ -1,0 +1,255 @@
+//! The tables: their lengths and their form.
+//!
+//! Document 01, "Tables", and refusals 1 and 2 of "Turned down, in checking order".
+
+use crate::program::{self, Access, SettingSet, INSTRUCTION_BYTES, MAX_INSTRUCTIONS, SETTINGS};
+use std::collections::HashSet;
+
+/// "Capacity N is 1 to 4,096."
+pub const MAX_CAPACITY: usize = 4096;
+
+/// "programs (256 × N bytes)".
+pub const PROGRAM_BYTES: usize = 256;
+
+/// "read settings, seen values, write settings, written values (32 × N each)".
+pub const LIST_ENTRIES: usize = 32;
+
+/// "2^64 − 1 is infinity."
+pub const INFINITY: u64 = u64::MAX;
+
+/// "status (N: 0 New, 1 Valid, 2 Invalid)".
+#[derive(Clone, Copy, Debug, PartialEq, Eq, PartialOrd, Ord)]
+#[allow(missing_docs)]
+pub enum Status {
+    New,
+    Valid,
+    Invalid,
+}
+
+impl Status {
+    /// The status with this number, if there is one.
+    pub fn from_number(number: u16) -> Option<Self> {
+        match number {
+            0 => Some(Self::New),
+            1 => Some(Self::Valid),
+            2 => Some(Self::Invalid),
+            _ => None,
+        }
+    }
+}
+
+/// The fourteen tables, of any lengths and with any contents. "by place, in order of arrival" are
+/// all but the held count, the order and the view.
+#[derive(Clone, Debug, PartialEq, Eq)]
+pub struct Tables {
+    /// "held count (1 entry)".
+    pub held: Vec<u16>,
+    /// "timestamps (N)".
+    pub timestamps: Vec<u64>,
+    /// "order (N, the places by rising timestamp)".
+    pub order: Vec<u16>,
+    /// "status (N: 0 New, 1 Valid, 2 Invalid)".
+    pub status: Vec<u16>,
+    /// "withdrawn (N: 0 or 1)".
+    pub withdrawn: Vec<u16>,
+    /// "program length in instructions (N)".
+    pub lengths: Vec<u16>,
+    /// "programs (256 × N bytes)".
+    pub programs: Vec<u8>,
+    /// The read counts: "read and write counts (N each)".
+    pub reads: Vec<u16>,
+    /// The write counts.
+    pub writes: Vec<u16>,
+    /// The read settings: "read settings, seen values, write settings, written values (32 × N
+    /// each)".
+    pub sources: Vec<u16>,
+    /// The seen values.
+    pub seen: Vec<i32>,
+    /// The write settings.
+    pub targets: Vec<u16>,
+    /// The written values.
+    pub written: Vec<i32>,
+    /// "and the view (1,024)."
+    pub view: Vec<i32>,
+}
+
+impl Tables {
+    /// Tables of the lengths that belong to capacity `n`, with 0 in every slot.
+    pub fn new(n: usize) -> Self {
+        Self {
+            held: vec![0; 1],
+            timestamps: vec![0; n],
+            order: vec![0; n],
+            status: vec![0; n],
+            withdrawn: vec![0; n],
+            lengths: vec![0; n],
+            programs: vec![0; PROGRAM_BYTES * n],
+            reads: vec![0; n],
+            writes: vec![0; n],
+            sources: vec![0; LIST_ENTRIES * n],
+            seen: vec![0; LIST_ENTRIES * n],
+            targets: vec![0; LIST_ENTRIES * n],
+            written: vec![0; LIST_ENTRIES * n],
+            view: vec![0; SETTINGS],
+        }
+    }
+
+    /// The held count of tables in form.
+    pub fn held_count(&self) -> usize {
+        usize::from(self.held[0])
+    }
+
+    /// The program at a held place of tables in form.
+    pub fn program(&self, place: usize) -> &[u8] {
+        let length = usize::from(self.lengths[place]);
+        &self.program_bytes(place)[..INSTRUCTION_BYTES * length]
+    }
+
+    /// The write list at a held place of tables in form.
+    pub fn write_list(&self, place: usize) -> impl Iterator<Item = Access> + '_ {
+        let count = usize::from(self.writes[place]);
+        let targets = &entries(&self.targets, place)[..count];
+        let written = &entries(&self.written, place)[..count];
+        let pairs = targets.iter().zip(written);
+        pairs.map(|(&setting, &value)| Access { setting, value })
+    }
+
+    /// All bytes for the program at a place, used or not.
+    fn program_bytes(&self, place: usize) -> &[u8] {
+        &self.programs[PROGRAM_BYTES * place..][..PROGRAM_BYTES]
+    }
+}
+
+/// All slots for the list at a place, used or not, of a table that has one for each entry.
+fn entries<T>(table: &[T], place: usize) -> &[T] {
+    &table[LIST_ENTRIES * place..][..LIST_ENTRIES]
+}
+
+/// Whether N is a capacity and each table is "of exactly the length given". If not, the refusal is
+/// 1.
+pub fn check_lengths(n: usize, tables: &Tables) -> bool {
+    if !(1..=MAX_CAPACITY).contains(&n) {
+        return false;
+    }
+    let lengths = [
+        (tables.held.len(), 1),
+        (tables.timestamps.len(), n),
+        (tables.order.len(), n),
+        (tables.status.len(), n),
+        (tables.withdrawn.len(), n),
+        (tables.lengths.len(), n),
+        (tables.programs.len(), PROGRAM_BYTES * n),
+        (tables.reads.len(), n),
+        (tables.writes.len(), n),
+        (tables.sources.len(), LIST_ENTRIES * n),
+        (tables.seen.len(), LIST_ENTRIES * n),
+        (tables.targets.len(), LIST_ENTRIES * n),
+        (tables.written.len(), LIST_ENTRIES * n),
+        (tables.view.len(), SETTINGS),
+    ];
+    lengths.iter().all(|(length, given)| length == given)
+}
+
+/// Whether tables of the right lengths are in form. If not, the refusal is 2.
+///
+/// "Tables are in form when counts, order, status, flags, settings, programs and unused slots obey
+/// this section, timestamps are valid and distinct, no list names a setting twice, and a New
+/// change's lists are empty. The view is not tested."
+///
+/// # Panics
+///
+/// May panic on tables that [`check_lengths`] turns down.
+pub fn in_form(n: usize, tables: &Tables) -> bool {
+    let held = usize::from(tables.held[0]);
+    held <= n
+        && timestamps_in_form(&tables.timestamps[..held])
+        && order_in_form(&tables.order, &tables.timestamps[..held])
+        && (0..held).all(|place| change_in_form(tables, place))
+        && (held..n).all(|place| is_unused(tables, place))
+}
+
+/// "A timestamp is an unsigned 64-bit number from 1 to 2^64 − 2", and no two are equal.
+fn timestamps_in_form(timestamps: &[u64]) -> bool {
+    let distinct: HashSet<u64> = timestamps.iter().copied().collect();
+    distinct.len() == timestamps.len() && !distinct.contains(&0) && !distinct.contains(&INFINITY)
+}
+
+/// Whether the order has the places of these timestamps, which are distinct, "by rising timestamp",
+/// and 0 in its other slots.
+fn order_in_form(order: &[u16], timestamps: &[u64]) -> bool {
+    let mut places: Vec<usize> = (0..timestamps.len()).collect();
+    places.sort_unstable_by_key(|&place| timestamps[place]);
+    let (used, unused) = order.split_at(places.len());
+    used.iter().map(|&place| usize::from(place)).eq(places) && all_zero(unused)
+}
+
+/// Whether status, flag, program and lists at a held place are in form.
+fn change_in_form(tables: &Tables, place: usize) -> bool {
+    let Some(status) = Status::from_number(tables.status[place]) else {
+        return false;
+    };
+    let (reads, writes) = (tables.reads[place], tables.writes[place]);
+    tables.withdrawn[place] <= 1
+        && program_in_form(tables.lengths[place], tables.program_bytes(place))
+        && list_in_form(
+            reads,
+            entries(&tables.sources, place),
+            entries(&tables.seen, place),
+        )
+        && list_in_form(
+            writes,
+            entries(&tables.targets, place),
+            entries(&tables.written, place),
+        )
+        && (status != Status::New || (reads == 0 && writes == 0))
+}
+
+/// Whether the first `length` instructions of these bytes are a program that neither refusal 6 nor
+/// 7 turns down, and the bytes behind it are 0.
+fn program_in_form(length: u16, bytes: &[u8]) -> bool {
+    let length = usize::from(length);
+    if length > MAX_INSTRUCTIONS {
+        return false;
+    }
+    let (program, unused) = bytes.split_at(INSTRUCTION_BYTES * length);
+    program::check(program).is_ok() && all_zero(unused)
+}
+
+/// Whether a list of `count` entries fits, names settings that there are, none of them twice, and
+/// has 0 in the slots behind its entries.
+fn list_in_form(count: u16, settings: &[u16], values: &[i32]) -> bool {
+    let count = usize::from(count);
+    if count > LIST_ENTRIES {
+        return false;
+    }
+    let (named, unused) = settings.split_at(count);
+    let mut distinct = SettingSet::EMPTY;
+    named
+        .iter()
+        .all(|&setting| usize::from(setting) < SETTINGS && distinct.insert(setting))
+        && all_zero(unused)
+        && all_zero(&values[count..])
+}
+
+/// Whether all slots of a place are 0: "Unused slots hold 0." The order is by rank and not by
+/// place, so it is tested with the held places.
+fn is_unused(tables: &Tables, place: usize) -> bool {
+    tables.timestamps[place] == 0
+        && tables.status[place] == 0
+        && tables.withdrawn[place] == 0
+        && tables.lengths[place] == 0
+        && all_zero(tables.program_bytes(place))
+        && tables.reads[place] == 0
+        && tables.writes[place] == 0
+        && all_zero(entries(&tables.sources, place))
+        && all_zero(entries(&tables.seen, place))
+        && all_zero(entries(&tables.targets, place))
+        && all_zero(entries(&tables.written, place))
+}
+
+fn all_zero<T: Copy + Default + PartialEq>(slots: &[T]) -> bool {
+    slots.iter().all(|&slot| slot == T::default())
+}
+
+#[cfg(test)]
+mod tests;
