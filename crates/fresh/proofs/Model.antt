@@ -53,7 +53,7 @@ module _ (env env' : Environment) (agree : (s : ℕ) → s < settingCount → en
   holds-agree (e ∷ l) d h = (agree (e .setting) (d .0) ∙ h .0, holds-agree l (d .2) (h .1))
 
   -- runs on environments that agree on every setting are the same
-  run-agree : (bytes : List ℕ) → length bytes ≤ 256 → run env' bytes ≡ run env bytes
+  pub run-agree : (bytes : List ℕ) → length bytes ≤ 256 → run env' bytes ≡ run env bytes
   run-agree bytes h = run-same env env' bytes (holds-agree _ (run-bounded env bytes h .0 .distinct) (run-holds env bytes))
 
 module _ (env : Environment) where

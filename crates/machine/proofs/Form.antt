@@ -2,19 +2,19 @@
 use mathlib.Core.Path.{_≡_, refl, sym, ap, _∙_}
 use mathlib.Core.Bool.{Bool, true, false, _&&_}
 use mathlib.Core.List.{List, [], _∷_}
-use Prim.Native.Nat.{ℕ, zero, suc, _+_, _-_, _≤_, _<_}
+use Prim.Native.Nat.{ℕ, zero, suc, _+_, _-_, _*_, _/_, _%_, _≤_, _<_}
 use native.Mathlib.Decide.{decLt}
 use native.Mathlib.Omega.{arith}
-use borrow.Author.Tests.{ltb-true, leb-true}
+use borrow.Author.Tests.{ltb-true, leb-true, le-leb, eqb-true, eq-eqb}
 use lib.Dec.{ltb, leb}
-use lib.ListN.{getD, drop, List·getD-eq-default}
+use lib.ListN.{length, getD, drop, List·getD-eq-default}
 use lib.Seq.{getD-drop}
 use Rattle.machine.specs.declared.Instruction.{Instruction}
 use Rattle.machine.specs.Instruction.{instructionAt, instructionCount}
 use Rattle.machine.specs.declared.Format.{Format}
 use Rattle.machine.specs.declared.Operand.{Operand}
 use Rattle.machine.specs.declared.Operand.the-variants.{Distance}
-use Rattle.machine.specs.Form.{register, formats, unknown, formatOf, isBelow, isDistance, operandFits, isWellFormed, allBelow, wellFormed}
+use Rattle.machine.specs.Form.{register, formats, unknown, formatOf, isBelow, isDistance, operandFits, isWellFormed, allBelow, lengthFits, wellFormed}
 use Rattle.machine.proofs.Cases.{both, true-is-not-false}
 
 -- a test that every place below k passes
@@ -27,6 +27,11 @@ all-below (suc k) test e i h = go (all-below k test (both (allBelow k test) e .0
     go ih (yes q) = ih q
     go ih (no q) = let w : k ≡ i = omega arith in rw w at (both (allBelow k test) e .1)
 
+pub below-all : (k : ℕ) (test : ℕ → Bool) → ((i : ℕ) → i < k → test i ≡ true) → allBelow k test ≡ true
+unfolding allBelow
+below-all zero test h = refl
+below-all (suc k) test h = rw (below-all k test (λ i q. h i (omega arith)), h k (omega arith))
+
 -- one that some place fails
 pub not-all-below : (k : ℕ) (test : ℕ → Bool) (i : ℕ) → i < k → test i ≡ false → allBelow k test ≡ false
 not-all-below k test i h q = go (allBelow k test) refl
@@ -34,6 +39,20 @@ not-all-below k test i h q = go (allBelow k test) refl
     go : (b : Bool) → allBelow k test ≡ b → b ≡ false
     go true e = true-is-not-false (sym (all-below k test e i h) ∙ q)
     go false e = refl
+
+-- ---- the length of a program
+
+pub length-short : (bytes : List ℕ) → lengthFits bytes ≡ true → length bytes ≤ 256
+unfolding lengthFits
+length-short bytes e = leb-true _ _ (both _ e .0)
+
+pub length-eights : (bytes : List ℕ) → lengthFits bytes ≡ true → 8 * (length bytes / 8) ≡ length bytes
+unfolding lengthFits
+length-eights bytes e = omega (arith, eqb-true (length bytes % 8) 0 (both (leb (length bytes) 256) e .1))
+
+pub length-fits : (bytes : List ℕ) (k : ℕ) → k ≤ 32 → length bytes ≡ 8 * k → lengthFits bytes ≡ true
+unfolding lengthFits
+length-fits bytes k h e = rw (le-leb (length bytes) 256 (omega arith), eq-eqb (length bytes % 8) 0 (omega arith))
 
 -- ---- the parts of a well-formed instruction
 

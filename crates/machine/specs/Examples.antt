@@ -19,7 +19,7 @@ record Example : Type 0 where
   program : Program
   outcome : Outcome
 
-abbrev instruction : ℕ → ℕ → ℕ → ℕ → ℤ → Instruction
+abbrev pub instruction : ℕ → ℕ → ℕ → ℕ → ℤ → Instruction
 instruction o x y z k = record { operation = o; a = x; b = y; c = z; n = k }
 
 abbrev example : List Entry → Program → List Entry → List Entry → Ending → Example
@@ -27,13 +27,13 @@ example initial code rs ws end =
     record { settings = initial; program = code; outcome = record { reads = rs; writes = ws; ending = end } }
 
 -- the instructions of these examples: ra = n, ra = setting n, setting n = ra
-abbrev constant : ℕ → ℤ → Instruction
+abbrev pub constant : ℕ → ℤ → Instruction
 constant a n = instruction 1 a 0 0 n
 
-abbrev reading : ℕ → ℕ → Instruction
+abbrev pub reading : ℕ → ℕ → Instruction
 reading a s = instruction 11 a 0 0 (pos s)
 
-abbrev writing : ℕ → ℕ → Instruction
+abbrev pub writing : ℕ → ℕ → Instruction
 writing s a = instruction 13 a 0 0 (pos s)
 
 -- P3: copies 34 to 50

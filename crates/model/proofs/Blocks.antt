@@ -30,22 +30,14 @@ module _ {A : Type 0} (n : ℕ) (z : A) where
 
   -- a list with zeros from the k-th slot on is its first k elements, padded
   pub pad-is : (k : ℕ) (l : List A) → length l ≡ n → k ≤ n → drop k l ≡ replicate (n - k) z → l ≡ pad n z (take k l)
-  pad-is k l e h q =
-      sym (take-append-drop k l)
-      ∙ ap (take k l ++_) (q ∙ ap (λ (m : ℕ). replicate (n - m) z) (sym (length-take-le k l (omega arith))))
+  pad-is k l e h q = rw (length-take-le k l (omega arith), ← q) (sym (take-append-drop k l))
 
   -- an element more takes the place of the first zero
   pad-append : (l : List A) (a : A) → length l < n → pad n z (l ++ (a ∷ [])) ≡ set (pad n z l) (length l) a
   pad-append l a h =
-      append-snoc l a (replicate (n - length (l ++ (a ∷ []))) z)
-      ∙ ap (λ (m : ℕ). l ++ a ∷ replicate m z) fewer
-      ∙ sym (ap (λ (m : ℕ). set (l ++ replicate m z) (length l) a) one ∙ set-append-seam l z _ a)
-    where
-      fewer : n - length (l ++ (a ∷ [])) ≡ n - suc (length l)
-      fewer = simp length-append (omega arith)
-
-      one : n - length l ≡ suc (n - suc (length l))
-      one = omega arith
+      let fewer : n - length (l ++ (a ∷ [])) ≡ n - suc (length l) = simp length-append (omega arith) in
+      let one : n - length l ≡ suc (n - suc (length l)) = omega arith in
+      rw (fewer, one, append-snoc, set-append-seam)
 
 -- ---- columns
 
@@ -59,7 +51,7 @@ module _ {A : Type 0} (n : ℕ) (z : A) (f : Change → A) (changes : List Chang
   column-length h = pad-length n z (map f changes) (rw length-map h)
 
   map-get : (i : ℕ) → f blank ≡ z → getD (map f changes) i z ≡ f (getD changes i blank)
-  map-get i e = ap (getD (map f changes) i) (sym e) ∙ List·getD-map f changes i blank
+  map-get i e = rw (← e) (List·getD-map f changes i blank)
 
   -- the slot of a place, held or not
   pub column-get : (i : ℕ) → f blank ≡ z → getD (column n z f changes) i z ≡ f (getD changes i blank)
@@ -67,9 +59,7 @@ module _ {A : Type 0} (n : ℕ) (z : A) (f : Change → A) (changes : List Chang
 
   -- zeros behind the held places
   pub column-rest : drop (length changes) (column n z f changes) ≡ replicate (n - length changes) z
-  column-rest =
-      drop-at (map f changes) _ (length changes) (length-map changes f)
-      ∙ ap (λ (m : ℕ). replicate (n - m) z) (length-map changes f)
+  column-rest = rw (drop-at (map f changes) _ (length changes) (length-map changes f), length-map)
 
   -- a list is a column by its slots
   pub column-is : (l : List A) → f blank ≡ z → length l ≡ n → length changes ≤ n → ((i : ℕ) → i < length changes → getD l i z ≡ f (getD changes i blank)) → drop (length changes) l ≡ replicate (n - length changes) z → l ≡ column n z f changes
@@ -85,19 +75,11 @@ module _ {A : Type 0} (n : ℕ) (z : A) (f : Change → A) (changes : List Chang
 
   -- one change replaced is one store
   pub column-set : (i : ℕ) (c : Change) → i < length changes → column n z f (set changes i c) ≡ set (column n z f changes) i (f c)
-  column-set i c h =
-      ap₂ (λ (l : List A) (m : ℕ). l ++ replicate (n - m) z) (map-set f changes i c) sizes
-      ∙ sym (set-append-left (map f changes) _ i (f c) (rw length-map h))
-    where
-      sizes : length (map f (set changes i c)) ≡ length (map f changes)
-      sizes = simp (length-map, length-set)
+  column-set i c h = rw (map-set f changes i c, length-set, set-append-left (map f changes) _ i (f c) (rw length-map h))
 
   -- one change more is one store
   pub column-append : (c : Change) → length changes < n → column n z f (changes ++ (c ∷ [])) ≡ set (column n z f changes) (length changes) (f c)
-  column-append c h =
-      ap (pad n z) (map-append f changes (c ∷ []))
-      ∙ pad-append n z (map f changes) (f c) (rw length-map h)
-      ∙ ap (λ (m : ℕ). set (column n z f changes) m (f c)) (length-map changes f)
+  column-append c h = rw (map-append, pad-append n z (map f changes) (f c) (rw length-map h), length-map)
 
 -- ---- blocks
 
@@ -128,30 +110,24 @@ module _ {A : Type 0} (width : ℕ) (f : Change → List A) where
 -- the middle of three parts overwritten
 overwrite : {A : Type 0} (before old new later : List A) (i k : ℕ) → length before ≡ i → length old ≡ k → take i (before ++ (old ++ later)) ++ new ++ drop (i + k) (before ++ (old ++ later)) ≡ before ++ (new ++ later)
 overwrite before old new later i k e q =
-    ap₂ (λ x y. x ++ new ++ y) (take-at before _ i e)
-    (sym (drop-drop k i (before ++ (old ++ later))) ∙ ap (drop k) (drop-at before _ i e) ∙ drop-at old later k q)
-    ∙ append-assoc before new later
+    rw (← drop-drop k i, take-at before (old ++ later) i e, drop-at before (old ++ later) i e, drop-at old later k q) (append-assoc before new later)
 
 module _ {A : Type 0} (n width : ℕ) (z : A) (f : Change → List A) where
   padded-length : (changes : List Change) → Fits width f changes → length (padded width z f changes) ≡ width * length changes
   padded-length [] k = omega arith
   padded-length (c ∷ changes) k =
-      length-append (pad width z (f c)) (padded width z f changes)
-      ∙ ap₂ _+_ (pad-length width z (f c) (k .0)) (padded-length changes (k .1))
-      ∙ omega arith
+      rw (length-append (pad width z (f c)), pad-length width z (f c) (k .0), padded-length changes (k .1)) (omega arith)
 
   padded-append : (before later : List Change) → padded width z f (before ++ later) ≡ padded width z f before ++ padded width z f later
   padded-append [] later = refl
-  padded-append (c ∷ before) later = ap (pad width z (f c) ++_) (padded-append before later) ∙ sym (append-assoc (pad width z (f c)) _ _)
+  padded-append (c ∷ before) later = rw (padded-append before later, append-assoc (pad width z (f c)))
 
   pub blocks-length : (changes : List Change) → Fits width f changes → length changes ≤ n → length (blocks n width z f changes) ≡ width * n
   blocks-length changes k h = pad-length (width * n) z (padded width z f changes) (rw (padded-length changes k) (mul-le-mul-left width h))
 
   -- zeros behind the held places
   pub blocks-rest : (changes : List Change) → Fits width f changes → drop (width * length changes) (blocks n width z f changes) ≡ replicate (width * n - width * length changes) z
-  blocks-rest changes k =
-      drop-at (padded width z f changes) _ (width * length changes) (padded-length changes k)
-      ∙ ap (λ (m : ℕ). replicate (width * n - m) z) (padded-length changes k)
+  blocks-rest changes k = rw (drop-at (padded width z f changes) _ (width * length changes) (padded-length changes k), padded-length changes k)
 
   -- what stands behind a block: the blocks of the later places, and zeros
   abbrev behind : ℕ → List Change → List A
@@ -160,18 +136,14 @@ module _ {A : Type 0} (n width : ℕ) (z : A) (f : Change → List A) where
   -- a table of blocks, taken apart at a place
   split : (before : List Change) (c : Change) (later : List Change) → Fits width f (before ++ c ∷ later) → blocks n width z f (before ++ c ∷ later) ≡ padded width z f before ++ (pad width z (f c) ++ behind (length before) later)
   split before c later k =
-      ap₂ (λ (l : List A) (m : ℕ). l ++ replicate (width * n - m) z) (padded-append before (c ∷ later))
-      (padded-length (before ++ c ∷ later) k ∙ ap (width *_) (length-append before (c ∷ later)))
-      ∙ simp append-assoc
+      rw (padded-length (before ++ c ∷ later) k, length-append, padded-append before (c ∷ later)) (simp append-assoc)
 
   module _ (changes : List Change) (i : ℕ) (k : Fits width f changes) (h : i < length changes) where
     parts : changes ≡ take i changes ++ getD changes i blank ∷ drop (suc i) changes
     parts = split-at changes i blank h
 
     front : length (padded width z f (take i changes)) ≡ width * i
-    front =
-        padded-length (take i changes) (fits-before width f (take i changes) _ (subst (Fits width f) parts k))
-        ∙ ap (width *_) (length-take-le i changes (omega arith))
+    front = rw (padded-length (take i changes) (fits-before width f (take i changes) _ (subst (Fits width f) parts k)), length-take-le i changes (omega arith))
 
     held : blocks n width z f changes ≡ padded width z f (take i changes) ++ (pad width z (f (getD changes i blank)) ++ behind (length (take i changes)) (drop (suc i) changes))
     held = ap (blocks n width z f) parts ∙ split (take i changes) (getD changes i blank) (drop (suc i) changes) (subst (Fits width f) parts k)
@@ -192,58 +164,45 @@ module _ {A : Type 0} (n width : ℕ) (z : A) (f : Change → List A) where
 
     -- its used slots
     pub blocks-slots : slots width i (length (f (getD changes i blank))) (blocks n width z f changes) ≡ f (getD changes i blank)
-    blocks-slots = ap (take (length (f (getD changes i blank)))) from-slots ∙ take-append-seam (f (getD changes i blank)) _
+    blocks-slots = rw (from-slots, take-append-seam)
 
     -- its other slots
     pub blocks-unused : restOf width i (length (f (getD changes i blank))) (blocks n width z f changes) ≡ replicate (width - length (f (getD changes i blank))) z
     blocks-unused =
         let used = length (f (getD changes i blank)) in
-        ap (take (width - used)) (sym (drop-drop used (width * i) (blocks n width z f changes)) ∙ ap (drop used) from-slots ∙ drop-append-seam (f (getD changes i blank)) _)
-        ∙ take-at (replicate (width - used) z) (behind (length (take i changes)) (drop (suc i) changes)) (width - used) (length-replicate (width - used) z)
+        rw (← drop-drop used (width * i), from-slots, drop-append-seam) (take-at (replicate (width - used) z) _ (width - used) (length-replicate (width - used) z))
 
     -- one slot
     pub blocks-get : (j : ℕ) → j < width → getD (blocks n width z f changes) (width * i + j) z ≡ getD (f (getD changes i blank)) j z
     blocks-get j q =
-        sym (getD-drop (width * i) (blocks n width z f changes) j z)
-        ∙ sym (getD-take width (drop (width * i) (blocks n width z f changes)) j z q)
-        ∙ ap (λ (l : List A). getD l j z) blocks-block
-        ∙ pad-get width z (f (getD changes i blank)) j
+        rw (← getD-drop (width * i) (blocks n width z f changes) j z, ← getD-take width (drop (width * i) (blocks n width z f changes)) j z q, blocks-block)
+        (pad-get width z (f (getD changes i blank)) j)
 
     -- one change replaced is one block overwritten
     pub blocks-set : (c : Change) → length (f c) ≤ width → blocks n width z f (set changes i c) ≡ take (width * i) (blocks n width z f changes) ++ pad width z (f c) ++ drop (width * i + width) (blocks n width z f changes)
     blocks-set c q =
-        ap (blocks n width z f) (set-split changes i c h)
-        ∙ split (take i changes) c (drop (suc i) changes) (subst (Fits width f) (set-split changes i c h) (fits-set width f changes i c k q))
-        ∙ sym (ap (λ (l : List A). take (width * i) l ++ pad width z (f c) ++ drop (width * i + width) l) held
-        ∙ overwrite (padded width z f (take i changes)) (pad width z (f (getD changes i blank))) (pad width z (f c)) (behind (length (take i changes)) (drop (suc i) changes)) (width * i) width front block-length)
+        rw (held, overwrite _ (pad width z (f (getD changes i blank))) (pad width z (f c)) _ (width * i) width front block-length, set-split changes i c h)
+        (split (take i changes) c (drop (suc i) changes) (subst (Fits width f) (set-split changes i c h) (fits-set width f changes i c k q)))
 
   -- one change more is one block overwritten
   pub blocks-append : (changes : List Change) (c : Change) → Fits width f changes → length (f c) ≤ width → length changes < n → blocks n width z f (changes ++ (c ∷ [])) ≡ take (width * length changes) (blocks n width z f changes) ++ pad width z (f c) ++ drop (width * length changes + width) (blocks n width z f changes)
   blocks-append changes c k q h =
-      split changes c [] (fits-append width f changes c k q)
-      ∙ sym (ap (λ (l : List A). take (width * length changes) l ++ pad width z (f c) ++ drop (width * length changes + width) l) unused
-      ∙ overwrite (padded width z f changes) (replicate width z) (pad width z (f c)) (behind (length changes) []) (width * length changes) width (padded-length changes k) (length-replicate width z))
+      rw (unused, overwrite _ (replicate width z) (pad width z (f c)) _ (width * length changes) width (padded-length changes k) (length-replicate width z))
+      (split changes c [] (fits-append width f changes c k q))
     where
       unused : blocks n width z f changes ≡ padded width z f changes ++ (replicate width z ++ behind (length changes) [])
       unused =
           let rest = width * n - width * (length changes + 1) in
           let e : width * n - width * length changes ≡ width + rest = omega (arith, mul-le-mul-left width h) in
-          ap (λ (m : ℕ). padded width z f changes ++ replicate m z) (ap (width * n -_) (padded-length changes k) ∙ e)
-          ∙ ap (padded width z f changes ++_) (sym (replicate-append-replicate width rest z))
+          rw (padded-length changes k, e, replicate-append-replicate width rest z)
 
   padded-is : (changes : List Change) (l : List A) → ((i : ℕ) → i < length changes → slots width i width l ≡ pad width z (f (getD changes i blank))) → take (width * length changes) l ≡ padded width z f changes
-  padded-is [] l each = let e : width * 0 ≡ 0 = omega arith in ap (λ (m : ℕ). take m l) e
+  padded-is [] l each = let none : width * 0 ≡ 0 = omega arith in rw none
   padded-is (c ∷ changes) l each =
-      ap (λ (m : ℕ). take m l) (next (length changes))
-      ∙ take-add width (width * length changes) l
-      ∙ ap₂ _++_ (ap (λ (m : ℕ). take width (drop m l)) none ∙ each 0 (omega arith))
-      (padded-is changes (drop width l) (λ i q. ap (take width) (drop-drop (width * i) width l ∙ ap (λ (m : ℕ). drop m l) (sym (next i))) ∙ each (suc i) (omega arith)))
-    where
-      none : 0 ≡ width * 0
-      none = omega arith
-
-      next : (i : ℕ) → width * suc i ≡ width + width * i
-      next i = omega arith
+      let none : width * 0 ≡ 0 = omega arith in
+      let next : (i : ℕ) → width * suc i ≡ width + width * i = λ i. omega arith in
+      rw (next (length changes), take-add width (width * length changes) l)
+      (ap₂ _++_ (rw none at (each 0 (omega arith))) (padded-is changes (drop width l) (λ i q. rw (drop-drop (width * i) width l, ← next i) (each (suc i) (omega arith)))))
 
   -- a list is a table of blocks by its blocks
   pub blocks-is : (changes : List Change) (l : List A) → length l ≡ width * n → length changes ≤ n → ((i : ℕ) → i < length changes → slots width i width l ≡ pad width z (f (getD changes i blank))) → drop (width * length changes) l ≡ replicate (width * n - width * length changes) z → l ≡ blocks n width z f changes
@@ -264,7 +223,5 @@ module _ {A : Type 0} (n width i k : ℕ) (l : List A) (e : length l ≡ width *
   -- a block is its used slots, padded
   pub slots-pad : (z : A) → restOf width i k l ≡ replicate (width - k) z → slots width i width l ≡ pad width z (slots width i k l)
   slots-pad z r =
-      let sum : width ≡ k + (width - k) = omega arith in
-      ap (λ (m : ℕ). slots width i m l) sum
-      ∙ take-add k (width - k) (drop (width * i) l)
-      ∙ ap (slots width i k l ++_) (ap (take (width - k)) (drop-drop k (width * i) l) ∙ r ∙ ap (λ (m : ℕ). replicate (width - m) z) (sym slots-length))
+      let sum : k + (width - k) ≡ width = omega arith in
+      rw (slots-length, ← r, ← drop-drop k (width * i) l, ← take-add k (width - k) (drop (width * i) l), sum)

@@ -2,61 +2,52 @@
 use mathlib.Core.Path.{_≡_, refl, sym, ap, ap₂, _∙_}
 use mathlib.Core.Bool.{true}
 use mathlib.Core.List.{List, [], _∷_}
-use Prim.Native.Nat.{ℕ, zero, suc, _-_, _*_, _/_, _%_, _≤_, _<_}
+use Prim.Native.Nat.{ℕ, zero, suc, _-_, _*_, _/_, _≤_, _<_}
 use native.Mathlib.Omega.{arith}
-use borrow.Author.Tests.{le-leb, eq-eqb}
 use lib.IntN.{ℤ, pos}
 use lib.ListN.{length, getD, take, drop, replicate, length-drop}
 use lib.Seq.{length-take-le, getD-take}
 use Rattle.machine.specs.Settings.{Entry, entries, Bounded}
-use Rattle.machine.specs.Form.{lengthFits}
-use Rattle.model.specs.History.{New, Change, timestamp, program, status, withdrawn, lists, tabulate}
+use Rattle.machine.proofs.Form.{length-fits}
+use Rattle.model.specs.History.{Change, timestamp, program, status, withdrawn, lists, tabulate}
 use Rattle.model.specs.Cabinet.{blank, historyOf}
-use Rattle.model.specs.Tables.{Tables, statusNumber, statusOf, flagNumber, flagOf, pad, column, blocks, settingsOf, valuesOf, encode, heldCount, slots, programAt, readsAt, writesAt, changeAt, decode}
-use Rattle.model.specs.Form.{allZero, allZeroZ, restOf, distinctSettings}
+use Rattle.model.specs.Tables.{Tables, statusNumber, statusOf, flagNumber, flagOf, pad, column, blocks, settingsOf, valuesOf, encode, heldCount, slots, programAt, changeAt, decode}
+use Rattle.model.specs.Form.{allZero, allZeroZ}
 use Rattle.model.specs.Sound.{Rising, ChangeSound, Below, Placed, Sound}
 use Rattle.model.proofs.Tabulate.{length-tabulate, getD-tabulate}
 use Rattle.model.proofs.Blocks.{pad-is, column-is, blocks-is, slots-room, slots-length, restOf-length, slots-pad}
 use Rattle.model.proofs.Entries.{settings-entries, values-entries, length-entries, distinct-of}
 use Rattle.model.proofs.Tests.{zeros, zerosZ, Lengths, Listed, FormTests}
-use Rattle.model.proofs.Order.{changesAt-length, changesAt-get, rising-of, rising-distinct, below-of, all-places}
+use Rattle.model.proofs.Order.{changesAt-length, changesAt-get, rising-of, rising-distinct, below-of, placed-of}
 use Rattle.model.proofs.Tables.{all-sound}
 
 -- ---- a list of entries
 
+-- the list that a count and two columns have at a place
 abbrev listAt : List ℕ → List ℕ → List ℤ → ℕ → List Entry
 listAt counts settings values i = entries (getD counts i 0) (drop (32 * i) settings) (drop (32 * i) values)
 
-module _ (n : ℕ) (counts settings : List ℕ) (values : List ℤ) (es : length settings ≡ 32 * n) (ev : length values ≡ 32 * n) (i : ℕ) (h : i < n) (l : Listed counts settings values i) where
-  settings-room : getD counts i 0 ≤ length (drop (32 * i) settings)
-  settings-room = slots-room n 32 i (getD counts i 0) settings es h (l .short)
-
-  values-room : getD counts i 0 ≤ length (drop (32 * i) values)
-  values-room = slots-room n 32 i (getD counts i 0) values ev h (l .short)
-
-  list-length : length (listAt counts settings values i) ≡ getD counts i 0
-  list-length = length-entries (getD counts i 0) _ _ settings-room values-room
-
-  list-settings : settingsOf (listAt counts settings values i) ≡ slots 32 i (getD counts i 0) settings
-  list-settings = settings-entries (getD counts i 0) _ _ values-room
-
-  list-values : valuesOf (listAt counts settings values i) ≡ slots 32 i (getD counts i 0) values
-  list-values = values-entries (getD counts i 0) _ _ settings-room
-
-  list-bounded : Bounded (listAt counts settings values i)
-  list-bounded = record { short = omega (arith, list-length, l .short); distinct = distinct-of _ (ap distinctSettings list-settings ∙ l .distinct) }
-
+-- tables can hold it, and its two columns are its layout
+record Laid (counts settings : List ℕ) (values : List ℤ) (i : ℕ) : Type 0 where
+  bounded : Bounded (listAt counts settings values i)
+  count : length (listAt counts settings values i) ≡ getD counts i 0
   settings-block : slots 32 i 32 settings ≡ pad 32 0 (settingsOf (listAt counts settings values i))
-  settings-block =
-      let k = getD counts i 0 in
-      slots-pad n 32 i k settings es h (l .short) 0 (zeros (restOf 32 i k settings) (32 - k) (restOf-length n 32 i k settings es h (l .short)) (l .settings-rest))
-      ∙ ap (pad 32 0) (sym list-settings)
-
   values-block : slots 32 i 32 values ≡ pad 32 (pos 0) (valuesOf (listAt counts settings values i))
-  values-block =
-      let k = getD counts i 0 in
-      slots-pad n 32 i k values ev h (l .short) (pos 0) (zerosZ (restOf 32 i k values) (32 - k) (restOf-length n 32 i k values ev h (l .short)) (l .values-rest))
-      ∙ ap (pad 32 (pos 0)) (sym list-values)
+
+list-laid : (n : ℕ) (counts settings : List ℕ) (values : List ℤ) → length settings ≡ 32 * n → length values ≡ 32 * n → (i : ℕ) → i < n → Listed counts settings values i → Laid counts settings values i
+list-laid n counts settings values es ev i h l =
+    let k = getD counts i 0 in
+    let settings-room = slots-room n 32 i k settings es h (l .short) in
+    let values-room = slots-room n 32 i k values ev h (l .short) in
+    let settings-taken = settings-entries k (drop (32 * i) settings) (drop (32 * i) values) values-room in
+    let values-taken = values-entries k (drop (32 * i) settings) (drop (32 * i) values) settings-room in
+    let count = length-entries k (drop (32 * i) settings) (drop (32 * i) values) settings-room values-room in
+    record {
+      bounded = record { short = omega arith; distinct = distinct-of _ (rw settings-taken (l .distinct)) };
+      count = count;
+      settings-block = rw settings-taken (slots-pad n 32 i k settings es h (l .short) 0 (zeros _ _ (restOf-length n 32 i k settings es h (l .short)) (l .settings-rest)));
+      values-block = rw values-taken (slots-pad n 32 i k values ev h (l .short) (pos 0) (zerosZ _ _ (restOf-length n 32 i k values ev h (l .short)) (l .values-rest)));
+    }
 
 -- an empty list
 list-empty : (counts settings : List ℕ) (values : List ℤ) (i : ℕ) → getD counts i 0 ≡ 0 → listAt counts settings values i ≡ []
@@ -76,14 +67,9 @@ flag-known zero h = refl
 flag-known (suc zero) h = refl
 flag-known (suc (suc w)) h = absurd (omega arith)
 
-status-new : (s : ℕ) → statusOf s ≡ New → s ≡ 0
-status-new zero e = refl
-status-new (suc zero) e = ap statusNumber e
-status-new (suc (suc s)) e = absurd (let z : 2 ≡ 0 = ap statusNumber e in omega arith)
-
 module _ (n : ℕ) (T : Tables) (g : Lengths n T) (f : FormTests n T) (i : ℕ) (h : i < heldCount T) where
   within : i < n
-  within = omega (arith, f .small)
+  within = omega arith
 
   program-short : 8 * getD (T .lengths) i 0 ≤ 256
   program-short = omega (arith, f .programs i h .short)
@@ -93,41 +79,27 @@ module _ (n : ℕ) (T : Tables) (g : Lengths n T) (f : FormTests n T) (i : ℕ) 
 
   program-block : slots 256 i 256 (T .programs) ≡ pad 256 0 (programAt T i)
   program-block =
-      let k = 8 * getD (T .lengths) i 0 in
-      slots-pad n 256 i k (T .programs) (g .programs) within program-short 0
-      (zeros (restOf 256 i k (T .programs)) (256 - k) (restOf-length n 256 i k (T .programs) (g .programs) within program-short) (f .programs i h .rest))
+      slots-pad n 256 i (8 * getD (T .lengths) i 0) (T .programs) (g .programs) within program-short 0
+      (zeros _ _ (restOf-length n 256 i (8 * getD (T .lengths) i 0) (T .programs) (g .programs) within program-short) (f .programs i h .rest))
 
-  reads-length : length (readsAt T i) ≡ getD (T .reads) i 0
-  reads-length = list-length n (T .reads) (T .sources) (T .seen) (g .sources) (g .seen) i within (f .reads i h)
+  reads-laid : Laid (T .reads) (T .sources) (T .seen) i
+  reads-laid = list-laid n (T .reads) (T .sources) (T .seen) (g .sources) (g .seen) i within (f .reads i h)
 
-  sources-block : slots 32 i 32 (T .sources) ≡ pad 32 0 (settingsOf (readsAt T i))
-  sources-block = settings-block n (T .reads) (T .sources) (T .seen) (g .sources) (g .seen) i within (f .reads i h)
-
-  seen-block : slots 32 i 32 (T .seen) ≡ pad 32 (pos 0) (valuesOf (readsAt T i))
-  seen-block = values-block n (T .reads) (T .sources) (T .seen) (g .sources) (g .seen) i within (f .reads i h)
-
-  writes-length : length (writesAt T i) ≡ getD (T .writes) i 0
-  writes-length = list-length n (T .writes) (T .targets) (T .written) (g .targets) (g .written) i within (f .writes i h)
-
-  targets-block : slots 32 i 32 (T .targets) ≡ pad 32 0 (settingsOf (writesAt T i))
-  targets-block = settings-block n (T .writes) (T .targets) (T .written) (g .targets) (g .written) i within (f .writes i h)
-
-  written-block : slots 32 i 32 (T .written) ≡ pad 32 (pos 0) (valuesOf (writesAt T i))
-  written-block = values-block n (T .writes) (T .targets) (T .written) (g .targets) (g .written) i within (f .writes i h)
+  writes-laid : Laid (T .writes) (T .targets) (T .written) i
+  writes-laid = list-laid n (T .writes) (T .targets) (T .written) (g .targets) (g .written) i within (f .writes i h)
 
   change-sound : ChangeSound (changeAt T i)
-  unfolding lengthFits
   change-sound =
       record {
         above = f .heads i h .above;
         below = f .heads i h .below;
-        sized = rw (program-length, le-leb _ _ program-short, eq-eqb (8 * getD (T .lengths) i 0 % 8) 0 (omega arith));
+        sized = length-fits (programAt T i) (getD (T .lengths) i 0) (f .programs i h .short) program-length;
         formed = f .programs i h .formed;
-        reads = list-bounded n (T .reads) (T .sources) (T .seen) (g .sources) (g .seen) i within (f .reads i h);
-        writes = list-bounded n (T .writes) (T .targets) (T .written) (g .targets) (g .written) i within (f .writes i h);
+        reads = reads-laid .bounded;
+        writes = writes-laid .bounded;
         new =
             λ e.
-            let none = f .heads i h .new (status-new (getD (T .status) i 0) e) in
+            let none = f .heads i h .new (sym (status-known _ (f .heads i h .status)) ∙ ap statusNumber e) in
             ap₂ (λ (r w : List Entry). record { reads = r; writes = w }) (list-empty (T .reads) (T .sources) (T .seen) i (none .0)) (list-empty (T .writes) (T .targets) (T .written) i (none .1));
       }
 
@@ -139,10 +111,10 @@ one-slot (x ∷ []) e = refl
 one-slot (x ∷ y ∷ l) e = absurd (omega arith)
 
 zeros-from : (l : List ℕ) (n k : ℕ) → length l ≡ n → allZero (drop k l) ≡ true → drop k l ≡ replicate (n - k) 0
-zeros-from l n k e z = zeros (drop k l) (n - k) (length-drop k l ∙ ap (_- k) e) z
+zeros-from l n k e z = zeros _ _ (length-drop k l ∙ ap (_- k) e) z
 
 zerosZ-from : (l : List ℤ) (n k : ℕ) → length l ≡ n → allZeroZ (drop k l) ≡ true → drop k l ≡ replicate (n - k) (pos 0)
-zerosZ-from l n k e z = zerosZ (drop k l) (n - k) (length-drop k l ∙ ap (_- k) e) z
+zerosZ-from l n k e z = zerosZ _ _ (length-drop k l ∙ ap (_- k) e) z
 
 abbrev heldChanges : Tables → List Change
 heldChanges T = tabulate (heldCount T) (changeAt T)
@@ -155,7 +127,7 @@ module _ (n : ℕ) (T : Tables) (g : Lengths n T) (f : FormTests n T) where
   held-get i h = getD-tabulate (heldCount T) (changeAt T) i blank h
 
   order-length : length (take (heldCount T) (T .order)) ≡ heldCount T
-  order-length = length-take-le (heldCount T) (T .order) (omega (arith, g .order, f .small))
+  order-length = length-take-le (heldCount T) (T .order) (omega arith)
 
   order-get : (k : ℕ) → k < heldCount T → getD (take (heldCount T) (T .order)) k 0 ≡ getD (T .order) k 0
   order-get k h = getD-take (heldCount T) (T .order) k 0 h
@@ -184,12 +156,7 @@ module _ (n : ℕ) (T : Tables) (g : Lengths n T) (f : FormTests n T) where
       let order = take (heldCount T) (T .order) in
       let distinct = rising-distinct (heldChanges T) order 0 history-rising in
       let below : Below (heldCount T) order = below-of (heldCount T) order (λ k h. let h' : k < heldCount T = rw order-length at h in rw (order-get k h') (f .places k h')) in
-      record {
-        counted = order-length ∙ sym held-length;
-        below = rw held-length below;
-        distinct = distinct;
-        covers = λ i h. all-places (heldCount T) order distinct below order-length i (rw held-length at h);
-      }
+      placed-of (decode T) (order-length ∙ sym held-length) (rw held-length below) distinct
 
   pub sound-decode : Sound n (decode T)
   unfolding decode
@@ -218,43 +185,24 @@ module _ (n : ℕ) (T : Tables) (g : Lengths n T) (f : FormTests n T) where
       (λ i h. let h' : i < heldCount T = rw held-length at h in each i h' ∙ ap (λ (c : Change). pad width z (field c)) (sym (held-get i h')))
       (rw held-length rest))
 
-  blocks-backN : (width : ℕ) (field : Change → List ℕ) (l : List ℕ) → length l ≡ width * n → ((i : ℕ) → i < heldCount T → slots width i width l ≡ pad width 0 (field (changeAt T i))) → allZero (drop (width * heldCount T) l) ≡ true → blocks n width 0 field (heldChanges T) ≡ l
-  blocks-backN width field l e each z = blocks-back width 0 field l e each (zeros-from l (width * n) (width * heldCount T) e z)
-
-  blocks-backZ : (width : ℕ) (field : Change → List ℤ) (l : List ℤ) → length l ≡ width * n → ((i : ℕ) → i < heldCount T → slots width i width l ≡ pad width (pos 0) (field (changeAt T i))) → allZeroZ (drop (width * heldCount T) l) ≡ true → blocks n width (pos 0) field (heldChanges T) ≡ l
-  blocks-backZ width field l e each z = blocks-back width (pos 0) field l e each (zerosZ-from l (width * n) (width * heldCount T) e z)
-
   pub encode-back : encode n (decode T) ≡ T
   unfolding encode decode
   encode-back =
       let u = f .unused in
-      let held = ap (_∷ []) held-length ∙ one-slot (T .held) (g .held) in
-      let timestamps = column-back (T .timestamps) timestamp refl (g .timestamps) (λ i h. refl) (u .timestamps) in
-      let order = sym (pad-is n 0 (heldCount T) (T .order) (g .order) (f .small) (zeros-from (T .order) n (heldCount T) (g .order) (u .order))) in
-      let status = column-back (T .status) (λ d. statusNumber (status d)) refl (g .status) (λ i h. sym (status-known (getD (T .status) i 0) (f .heads i h .status))) (u .status) in
-      let withdrawn = column-back (T .withdrawn) (λ d. flagNumber (withdrawn d)) refl (g .withdrawn) (λ i h. sym (flag-known (getD (T .withdrawn) i 0) (f .heads i h .withdrawn))) (u .withdrawn) in
-      let lengths = column-back (T .lengths) (λ d. length (program d) / 8) refl (g .lengths) (λ i h. omega (arith, program-length n T g f i h)) (u .lengths) in
-      let programs = blocks-backN 256 program (T .programs) (g .programs) (program-block n T g f) (u .programs) in
-      let reads = column-back (T .reads) (λ d. length (lists d .reads)) refl (g .reads) (λ i h. sym (reads-length n T g f i h)) (u .reads) in
-      let writes = column-back (T .writes) (λ d. length (lists d .writes)) refl (g .writes) (λ i h. sym (writes-length n T g f i h)) (u .writes) in
-      let sources = blocks-backN 32 (λ d. settingsOf (lists d .reads)) (T .sources) (g .sources) (sources-block n T g f) (u .sources) in
-      let seen = blocks-backZ 32 (λ d. valuesOf (lists d .reads)) (T .seen) (g .seen) (seen-block n T g f) (u .seen) in
-      let targets = blocks-backN 32 (λ d. settingsOf (lists d .writes)) (T .targets) (g .targets) (targets-block n T g f) (u .targets) in
-      let written = blocks-backZ 32 (λ d. valuesOf (lists d .writes)) (T .written) (g .written) (written-block n T g f) (u .written) in
       λ j.
       record {
-        held = held j;
-        timestamps = timestamps j;
-        order = order j;
-        status = status j;
-        withdrawn = withdrawn j;
-        lengths = lengths j;
-        programs = programs j;
-        reads = reads j;
-        writes = writes j;
-        sources = sources j;
-        seen = seen j;
-        targets = targets j;
-        written = written j;
+        held = (ap (_∷ []) held-length ∙ one-slot (T .held) (g .held)) j;
+        timestamps = column-back (T .timestamps) timestamp refl (g .timestamps) (λ i h. refl) (u .timestamps) j;
+        order = sym (pad-is n 0 (heldCount T) (T .order) (g .order) (f .small) (zeros-from _ _ _ (g .order) (u .order))) j;
+        status = column-back (T .status) (λ d. statusNumber (status d)) refl (g .status) (λ i h. sym (status-known (getD (T .status) i 0) (f .heads i h .status))) (u .status) j;
+        withdrawn = column-back (T .withdrawn) (λ d. flagNumber (withdrawn d)) refl (g .withdrawn) (λ i h. sym (flag-known (getD (T .withdrawn) i 0) (f .heads i h .withdrawn))) (u .withdrawn) j;
+        lengths = column-back (T .lengths) (λ d. length (program d) / 8) refl (g .lengths) (λ i h. omega (arith, program-length n T g f i h)) (u .lengths) j;
+        programs = blocks-back 256 0 program (T .programs) (g .programs) (program-block n T g f) (zeros-from _ _ _ (g .programs) (u .programs)) j;
+        reads = column-back (T .reads) (λ d. length (lists d .reads)) refl (g .reads) (λ i h. sym (reads-laid n T g f i h .count)) (u .reads) j;
+        writes = column-back (T .writes) (λ d. length (lists d .writes)) refl (g .writes) (λ i h. sym (writes-laid n T g f i h .count)) (u .writes) j;
+        sources = blocks-back 32 0 (λ d. settingsOf (lists d .reads)) (T .sources) (g .sources) (λ i h. reads-laid n T g f i h .settings-block) (zeros-from _ _ _ (g .sources) (u .sources)) j;
+        seen = blocks-back 32 (pos 0) (λ d. valuesOf (lists d .reads)) (T .seen) (g .seen) (λ i h. reads-laid n T g f i h .values-block) (zerosZ-from _ _ _ (g .seen) (u .seen)) j;
+        targets = blocks-back 32 0 (λ d. settingsOf (lists d .writes)) (T .targets) (g .targets) (λ i h. writes-laid n T g f i h .settings-block) (zeros-from _ _ _ (g .targets) (u .targets)) j;
+        written = blocks-back 32 (pos 0) (λ d. valuesOf (lists d .writes)) (T .written) (g .written) (λ i h. writes-laid n T g f i h .values-block) (zerosZ-from _ _ _ (g .written) (u .written)) j;
         view = T .view;
       }

@@ -7,7 +7,8 @@ use native.Mathlib.Omega.{arith}
 use borrow.Author.Tests.{ltb-true, lt-ltb, not-true}
 use lib.Dec.{eqb, ltb}
 use lib.IntN.{ℤ}
-use lib.ListN.{length, take}
+use lib.ListN.{length, take, length-map}
+use lib.Seq.{length-take-le}
 use Rattle.machine.specs.Settings.{settingCount, Entry, entry, named, entries, Distinct}
 use Rattle.machine.proofs.Cases.{both}
 use Rattle.model.specs.Tables.{settingsOf, valuesOf}
@@ -42,22 +43,19 @@ values-entries (suc k) (s ∷ settings) [] h = refl
 values-entries (suc k) (s ∷ settings) (v ∷ values) h = ap (v ∷_) (values-entries k settings values (omega arith))
 
 pub length-entries : (k : ℕ) (settings : List ℕ) (values : List ℤ) → k ≤ length settings → k ≤ length values → length (entries k settings values) ≡ k
-unfolding entries
-length-entries zero settings values h q = refl
-length-entries (suc k) [] values h q = absurd (omega arith)
-length-entries (suc k) (s ∷ settings) [] h q = absurd (omega arith)
-length-entries (suc k) (s ∷ settings) (v ∷ values) h q = ap suc (length-entries k settings values (omega arith) (omega arith))
+length-entries k settings values h q =
+    sym (length-map (entries k settings values) (λ (e : Entry). e .setting)) ∙ ap length (settings-entries k settings values q) ∙ length-take-le k settings h
 
 -- ---- distinct settings
 
 holds-named : (s : ℕ) (l : List Entry) → holds s (settingsOf l) ≡ named s l
 unfolding named
 holds-named s [] = refl
-holds-named s (e ∷ l) = go (eqb (e .setting) s) (holds-named s l)
+holds-named s (e ∷ l) = rw (holds-named s l) (go (eqb (e .setting) s))
   where
-    go : (t : Bool) → holds s (settingsOf l) ≡ named s l → (t || holds s (settingsOf l)) ≡ cond t true (named s l)
-    go true ih = refl
-    go false ih = ih
+    go : (t : Bool) → (t || named s l) ≡ cond t true (named s l)
+    go true = refl
+    go false = refl
 
 pub distinct-of : (l : List Entry) → distinctSettings (settingsOf l) ≡ true → Distinct l
 unfolding Distinct

@@ -9,19 +9,19 @@ use borrow.Author.Tests.{ltb-true, leb-false, eqb-true, not-false}
 use lib.Dec.{eqb, ltb}
 use lib.ListN.{length}
 use Rattle.machine.specs.Form.{lengthFits, wellFormed}
-use Rattle.machine.proofs.Cases.{by-test, both}
+use Rattle.machine.proofs.Cases.{by-test, of-choice, impossible, both}
 use Rattle.model.specs.declared.Answer.{Answer}
 use Rattle.model.specs.declared.Answer.the-variants as answer
-use Rattle.model.specs.History.{infinity, Change, change, timestamp, History}
+use Rattle.model.specs.History.{infinity, Change, change, History}
 use Rattle.model.specs.Walk.{insert}
-use Rattle.model.specs.Cabinet.{Cabinet, historyOf, find, flag}
+use Rattle.model.specs.Cabinet.{Cabinet, historyOf, find}
 use Rattle.model.specs.Refusals.{Test, firstOf, noTimestamp, wrongProgramLength, malformed, isHeld, isWithdrawn, heldOtherwise, full, notHeld, withdrawnAlready}
 use Rattle.model.specs.Package.{Item, taking, withdrawing}
 use Rattle.model.specs.Book.{booked, enter, strike, bookedAs, bookOf}
 use Rattle.model.specs.Calls.{answerNumber, itemRefusal, itemAccepted, itemAnswer, itemDone, ifDone, itemStep, itemAnswers, itemSteps}
 use Rattle.model.specs.Log.{bookDone, bookItem, bookItems}
 use Rattle.model.specs.Sound.{Placed, Sound}
-use Rattle.model.proofs.Cabinet.{of-choice, add-history, remove-history}
+use Rattle.model.proofs.Cabinet.{withdrawIn, add-history, remove-history}
 use Rattle.model.proofs.Keeps.{add-sound, remove-sound}
 
 -- ---- the first refusal that applies
@@ -42,12 +42,23 @@ none-applies (t ∷ tests) n e =
 
 -- ---- what the answer done tells
 
+-- a statement about what is done where the answer is done, and else about what is not
+pub by-answer : {X : Type 0} (P : X → Type 0) (a : Answer) {x y : X} → (a ≡ answer.Done → P x) → P y → P (ifDone a x y)
+by-answer P answer.Done f k = f refl
+by-answer P answer.Held f k = k
+by-answer P (answer.Refused r) f k = k
+
+pub of-answer : {X Y : Type 0} (f : X → Y) (a : Answer) {x y : X} {x' y' : Y} → f x ≡ x' → f y ≡ y' → f (ifDone a x y) ≡ ifDone a x' y'
+of-answer f answer.Done e e' = e
+of-answer f answer.Held e e' = e'
+of-answer f (answer.Refused r) e e' = e'
+
 done-accepted : (n : ℕ) (c : Cabinet) (i : Item) → itemAnswer n c i ≡ answer.Done → (itemRefusal n c i ≡ 0) × (itemAccepted c i ≡ answer.Done)
 unfolding itemAnswer
 done-accepted n c i e =
     by-test (λ a. a ≡ answer.Done → (itemRefusal n c i ≡ 0) × (itemAccepted c i ≡ answer.Done)) (eqb (itemRefusal n c i) 0)
     (λ q d. (eqb-true (itemRefusal n c i) 0 q, d))
-    (λ q d. absurd (let z : _≡_ {A = ℕ} 0 1 = cc in omega arith)) e
+    (λ q d. impossible (cc)) e
 
 -- the timestamp is one, the program has its length and form, the timestamp is not held, and a place is left
 pub record TakingDone (n : ℕ) (c : Cabinet) (t : ℕ) (p : List ℕ) : Type 0 where
@@ -98,38 +109,24 @@ withdrawing-done n c t e =
 
 -- ---- answers and their numbers
 
-accepted-not-refused : {A : Type 0} (c : Cabinet) (i : Item) (r : ℕ) → itemAccepted c i ≡ answer.Refused r → A
-accepted-not-refused {A} c (taking t p) r e =
-    by-test (λ a. a ≡ answer.Refused r → A) (isHeld (find t (historyOf c))) (λ q d. absurd (let z : _≡_ {A = ℕ} 0 1 = cc in omega arith))
-    (λ q d. absurd (let z : _≡_ {A = ℕ} 0 1 = cc in omega arith)) e
-accepted-not-refused c (withdrawing t) r e = absurd (let z : _≡_ {A = ℕ} 0 1 = cc in omega arith)
+accepted-number : {A : Type 0} (c : Cabinet) (i : Item) (x y : A) → cond (eqb (answerNumber (itemAccepted c i)) 0) x y ≡ ifDone (itemAccepted c i) x y
+accepted-number c (taking t p) x y =
+    by-test (λ a. cond (eqb (answerNumber a) 0) x y ≡ ifDone a x y) (isHeld (find t (historyOf c))) (λ q. refl) (λ q. refl)
+accepted-number c (withdrawing t) x y = refl
 
-module _ (n : ℕ) (c : Cabinet) (i : Item) where
-  refused-not-zero : (r : ℕ) → itemAnswer n c i ≡ answer.Refused r → eqb r 0 ≡ false
-  unfolding itemAnswer
-  refused-not-zero r e =
-      by-test (λ a. a ≡ answer.Refused r → eqb r 0 ≡ false) (eqb (itemRefusal n c i) 0) (λ q d. accepted-not-refused c i r d)
-      (λ q d. let w : itemRefusal n c i ≡ r = cc in rw w at q) e
-
-  -- an answer has the number 0 where it is done, and only there
-  pub number-done : {A : Type 0} (x y : A) → cond (eqb (answerNumber (itemAnswer n c i)) 0) x y ≡ ifDone (itemAnswer n c i) x y
-  number-done {A} x y = go (itemAnswer n c i) refl
-    where
-      go : (a : Answer) → itemAnswer n c i ≡ a → cond (eqb (answerNumber a) 0) x y ≡ ifDone a x y
-      go answer.Done e = refl
-      go answer.Held e = refl
-      go (answer.Refused r) e = ap (λ b. cond b x y) (refused-not-zero r e)
+-- an answer has the number 0 where it is done, and only there
+pub number-done : (n : ℕ) (c : Cabinet) (i : Item) {A : Type 0} (x y : A) → cond (eqb (answerNumber (itemAnswer n c i)) 0) x y ≡ ifDone (itemAnswer n c i) x y
+unfolding itemAnswer
+number-done n c i x y =
+    by-test (λ a. cond (eqb (answerNumber a) 0) x y ≡ ifDone a x y) (eqb (itemRefusal n c i) 0) (λ q. accepted-number c i x y) (λ q. rw q)
 
 -- ---- what is kept
 
 pub item-sound : {n : ℕ} {c : Cabinet} (i : Item) → Sound n c → Sound n (itemStep n c i)
-item-sound {n} {c} i s = go i (itemAnswer n c i) refl
-  where
-    go : (i : Item) (a : Answer) → itemAnswer n c i ≡ a → Sound n (ifDone a (itemDone c i) c)
-    go (taking t p) answer.Done e = let k = taking-done n c t p e in add-sound t p s (k .room) (k .above) (k .below) (k .sized) (k .formed) (k .not-held)
-    go (withdrawing t) answer.Done e = remove-sound t s
-    go i answer.Held e = s
-    go i (answer.Refused r) e = s
+item-sound {n} {c} (taking t p) s =
+    by-answer (Sound n) (itemAnswer n c (taking t p))
+    (λ e. let k = taking-done n c t p e in add-sound t p s (k .room) (k .above) (k .below) (k .sized) (k .formed) (k .not-held)) s
+item-sound {n} {c} (withdrawing t) s = by-answer (Sound n) (itemAnswer n c (withdrawing t)) (λ e. remove-sound t s) s
 
 pub items-sound : {n : ℕ} {c : Cabinet} (items : List Item) → Sound n c → Sound n (itemSteps n c items)
 items-sound [] s = s
@@ -145,22 +142,19 @@ book-insert : (t : ℕ) (p : List ℕ) (h : History) → bookOf (insert t p h) �
 book-insert t p [] = refl
 book-insert t p (change u q s w l ∷ h) = of-choice bookOf (ltb t u) refl (ap (booked u q w ∷_) (book-insert t p h))
 
-book-flag : (t : ℕ) (h : History) → bookOf (map (λ u. cond (eqb (timestamp u) t) (flag u) u) h) ≡ strike t (bookOf h)
-book-flag t [] = refl
-book-flag t (change u q s w l ∷ h) = ap₂ _∷_ (of-choice bookedAs (eqb u t) refl refl ∙ sym (of-choice (booked u q) (eqb u t) refl refl)) (book-flag t h)
+book-withdraw : (t : ℕ) (h : History) → bookOf (withdrawIn t h) ≡ strike t (bookOf h)
+book-withdraw t [] = refl
+book-withdraw t (change u q s w l ∷ h) = ap₂ _∷_ (of-choice bookedAs (eqb u t) refl refl ∙ sym (of-choice (booked u q) (eqb u t) refl refl)) (book-withdraw t h)
 
 done-book : (c : Cabinet) (i : Item) → Placed c → bookOf (historyOf (itemDone c i)) ≡ bookDone i (bookOf (historyOf c))
 done-book c (taking t p) k = ap bookOf (add-history t p c k) ∙ book-insert t p (historyOf c)
-done-book c (withdrawing t) k = ap bookOf (remove-history t c k) ∙ book-flag t (historyOf c)
+done-book c (withdrawing t) k = ap bookOf (remove-history t c k) ∙ book-withdraw t (historyOf c)
 
 -- the book of what is held follows from arguments and answers
 pub item-book : {n : ℕ} {c : Cabinet} (i : Item) → Sound n c → bookOf (historyOf (itemStep n c i)) ≡ bookItem i (answerNumber (itemAnswer n c i)) (bookOf (historyOf c))
-item-book {n} {c} i s = go (itemAnswer n c i) ∙ sym (number-done n c i (bookDone i (bookOf (historyOf c))) (bookOf (historyOf c)))
-  where
-    go : (a : Answer) → bookOf (historyOf (ifDone a (itemDone c i) c)) ≡ ifDone a (bookDone i (bookOf (historyOf c))) (bookOf (historyOf c))
-    go answer.Done = done-book c i (s .placed)
-    go answer.Held = refl
-    go (answer.Refused r) = refl
+item-book {n} {c} i s =
+    of-answer (λ (d : Cabinet). bookOf (historyOf d)) (itemAnswer n c i) (done-book c i (s .placed)) refl
+    ∙ sym (number-done n c i (bookDone i (bookOf (historyOf c))) (bookOf (historyOf c)))
 
 -- the same of a package: of the answer bytes, those past its entries do not count
 pub items-book : {n : ℕ} {c : Cabinet} (items : List Item) (rest : List ℕ) → Sound n c → bookOf (historyOf (itemSteps n c items)) ≡ bookItems items (map answerNumber (itemAnswers n c items) ++ rest) (bookOf (historyOf c))

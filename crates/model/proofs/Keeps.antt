@@ -1,7 +1,7 @@
 -- What rounds, drains, takings in and withdrawals keep: the timestamps, and that tables can hold the cabinet.
-use mathlib.Core.Path.{_≡_, refl, sym, ap, ap₂, _∙_, subst}
-use mathlib.Core.Bool.{Bool, true, false, cond}
-use mathlib.Core.List.{List, [], _∷_, _++_, map}
+use mathlib.Core.Path.{_≡_, refl, sym, ap, ap₂, _∙_}
+use mathlib.Core.Bool.{Bool, true, false}
+use mathlib.Core.List.{List, [], _∷_, map}
 use mathlib.Core.Option.{Option, none, some}
 use Prim.Native.Nat.{ℕ, zero, suc, _<_}
 use native.Mathlib.Omega.{arith}
@@ -9,74 +9,18 @@ use borrow.Author.Tests.{ltb-true, ltb-false, eqb-true, eqb-false}
 use lib.Dec.{ltb, eqb}
 use lib.IntN.{ℤ}
 use lib.ListN.{length, length-map, length-append}
-use Rattle.machine.specs.Settings.{settingCount, Environment, Distinct, Bounded, after}
+use Rattle.machine.specs.Settings.{settingCount, Environment}
 use Rattle.machine.specs.Form.{lengthFits, wellFormed}
-use Rattle.machine.proofs.Cases.{by-test}
-use Rattle.model.specs.History.{infinity, start, Status, New, Valid, Invalid, Lists, empty, runLists, Change, change, timestamp, lists, History, asOf, allHold}
-use Rattle.model.specs.Figure.{Event, ran, cleared, Step, idle, turned, lowestWaiting, mark, markUpdate, markFuture, changeset, replace, install, rerun, execute, roundAt, round}
+use Rattle.machine.proofs.Cases.{by-test, impossible}
+use Rattle.model.specs.History.{infinity, start, New, Valid, Invalid, Lists, empty, runLists, Change, change, timestamp, History, asOf, allHold}
+use Rattle.model.specs.Figure.{Event, ran, cleared, Step, idle, turned, lowestWaiting, markUpdate, markFuture, changeset, replace, install, rerun, execute, roundAt, round}
 use Rattle.model.specs.Drain.{drainNone, drainStep, drainFor, drainHistory}
-use Rattle.model.specs.Walk.{differs, close, markLive, pass, settle, retry, walk, insert}
-use Rattle.model.specs.Cabinet.{Cabinet, historyOf, withHistory, find, add, unsettled, flag, remove}
+use Rattle.model.specs.Walk.{insert}
+use Rattle.model.specs.Cabinet.{Cabinet, historyOf, withHistory, find, add, flag, remove}
 use Rattle.model.specs.Calls.{roundOf, drainOf}
 use Rattle.model.specs.Sound.{Rising, ChangeSound, AllSound, Sound}
-use Rattle.model.proofs.Programs.{runLists-bounded}
-use Rattle.model.proofs.Cabinet.{length-putAt, withHistory-history, withHistory-placed, add-history, add-placed, changesAt-sound, putAt-sound}
-
--- ---- a sound change
-
--- another status, another flag
-restatus-sound : {t : ℕ} {p : List ℕ} {s s' : Status} {w w' : Bool} {l : Lists} → (s' ≡ New → s ≡ New) → ChangeSound (change t p s w l) → ChangeSound (change t p s' w' l)
-restatus-sound f k =
-    record {
-      above = k .above;
-      below = k .below;
-      sized = k .sized;
-      formed = k .formed;
-      reads = k .reads;
-      writes = k .writes;
-      new = λ e. k .new (f e);
-    }
-
--- other lists, Valid
-settled-sound : {t : ℕ} {p : List ℕ} {s : Status} {w w' : Bool} {l l' : Lists} → Bounded (l' .reads) → Bounded (l' .writes) → ChangeSound (change t p s w l) → ChangeSound (change t p Valid w' l')
-settled-sound r b k =
-    record {
-      above = k .above;
-      below = k .below;
-      sized = k .sized;
-      formed = k .formed;
-      reads = r;
-      writes = b;
-      new = λ e. cc;
-    }
-
-empty-bounded : Bounded []
-unfolding Distinct
-empty-bounded = record { short = omega arith; distinct = tt }
-
--- run, or cleared
-run-sound : (env : Environment) {t : ℕ} {p : List ℕ} {s : Status} {l : Lists} → ChangeSound (change t p s false l) → ChangeSound (change t p Valid false (runLists env p))
-run-sound env {p = p} k = let r = runLists-bounded env p (k .sized) in settled-sound (r .0) (r .1) k
-
-cleared-sound : {t : ℕ} {p : List ℕ} {s : Status} {l : Lists} → ChangeSound (change t p s true l) → ChangeSound (change t p Valid true empty)
-cleared-sound k = settled-sound empty-bounded empty-bounded k
-
-mark-new : (b : Bool) (s : Status) → mark b s ≡ New → s ≡ New
-mark-new b New e = refl
-mark-new true Valid e = cc
-mark-new false Valid e = e
-mark-new b Invalid e = e
-
-marked-sound : (b : Bool) (u : Change) → ChangeSound u → ChangeSound (markUpdate b u)
-marked-sound b (change t p s w l) k = restatus-sound (mark-new b s) k
-
-unsettled-new : (s : Status) → unsettled s ≡ New → s ≡ New
-unsettled-new New e = refl
-unsettled-new Valid e = cc
-unsettled-new Invalid e = e
-
-flag-sound : (u : Change) → ChangeSound u → ChangeSound (flag u)
-flag-sound (change t p s w l) k = restatus-sound (unsettled-new s) k
+use Rattle.model.proofs.Sound.{new-sound, stood-sound, ran-sound, cleared-sound, marked-sound, flag-sound, map-sound, append-sound}
+use Rattle.model.proofs.Cabinet.{length-putAt, withHistory-history, withHistory-placed, withdrawIn, add-history, add-placed, changesAt-sound, putAt-sound}
 
 -- ---- what is kept
 
@@ -90,16 +34,15 @@ pub keeps-length : {h h' : History} {view view' : List ℤ} → Keeps h view h' 
 keeps-length {h} {h'} k = sym (length-map h' timestamp) ∙ ap length (k .timestamps) ∙ length-map h timestamp
 
 rising-same : (b : ℕ) (h h' : History) → map timestamp h' ≡ map timestamp h → Rising b h → Rising b h'
-rising-same b [] [] e r = tt
-rising-same b [] (c' ∷ h') e r = absurd (let z : _≡_ {A = ℕ} 0 1 = cc in omega arith)
-rising-same b (c ∷ h) [] e r = absurd (let z : _≡_ {A = ℕ} 0 1 = cc in omega arith)
+rising-same b h [] e r = tt
+rising-same b [] (c' ∷ h') e r = impossible (cc)
 rising-same b (c ∷ h) (c' ∷ h') e r =
     let q : timestamp c' ≡ timestamp c = cc in
     let e' : map timestamp h' ≡ map timestamp h = cc in
     rw q (r .0, r .1, rising-same (timestamp c) h h' e' (r .2))
 
-pub keeps-rising : {h h' : History} {view view' : List ℤ} → Keeps h view h' view' → Rising 0 h → Rising 0 h'
-keeps-rising {h} {h'} k r = rising-same 0 h h' (k .timestamps) r
+pub keeps-rising : (b : ℕ) {h h' : History} {view view' : List ℤ} → Keeps h view h' view' → Rising b h → Rising b h'
+keeps-rising b {h} {h'} k r = rising-same b h h' (k .timestamps) r
 
 keeps-same : (h : History) (view : List ℤ) → Keeps h view h view
 keeps-same h view = record { timestamps = refl; sound = λ a. a; viewed = λ n. n }
@@ -112,15 +55,9 @@ keeps-both k k' =
       viewed = λ n. k' .viewed (k .viewed n);
     }
 
--- ---- a function on every change
-
 map-timestamps : (f : Change → Change) → ((u : Change) → timestamp (f u) ≡ timestamp u) → (h : History) → map timestamp (map f h) ≡ map timestamp h
 map-timestamps f e [] = refl
 map-timestamps f e (u ∷ h) = ap₂ _∷_ (e u) (map-timestamps f e h)
-
-map-sound : (f : Change → Change) → ((u : Change) → ChangeSound u → ChangeSound (f u)) → (h : History) → AllSound h → AllSound (map f h)
-map-sound f s [] a = tt
-map-sound f s (u ∷ h) a = (s u (a .0), map-sound f s h (a .1))
 
 -- ---- a round
 
@@ -148,20 +85,20 @@ module _ (h : History) (view : List ℤ) (upto : Environment) where
         viewed = λ n. refl;
       }
 
-  rerun-keeps : (b : Bool) (t : ℕ) (p : List ℕ) (s : Status) (old : Lists) → (AllSound h → ChangeSound (change t p s false old)) → StepKeeps h view (rerun b h view upto t p old)
-  rerun-keeps true t p s old k =
-      record {
-        timestamps = map-timestamps _ (λ u. replace-timestamp t (change t p Valid false old) u refl) h;
-        sound = λ a. map-sound _ (λ u s. replace-sound t (change t p Valid false old) u (restatus-sound (λ e. cc) (k a)) s) h a;
-        viewed = λ n. n;
-      }
-  rerun-keeps false t p s old k = install-keeps t p false old (runLists upto p) (ran t (runLists upto p)) (λ a. run-sound upto (k a))
-
   execute-keeps : (c : Change) → (AllSound h → ChangeSound c) → StepKeeps h view (execute h view upto c)
   execute-keeps (change t p s true old) k = install-keeps t p true old empty (cleared t) (λ a. cleared-sound (k a))
-  execute-keeps (change t p New false old) k = install-keeps t p false old (runLists upto p) (ran t (runLists upto p)) (λ a. run-sound upto (k a))
-  execute-keeps (change t p Invalid false old) k = rerun-keeps (allHold (old .reads) upto) t p Invalid old k
+  execute-keeps (change t p New false old) k = install-keeps t p false old (runLists upto p) (ran t (runLists upto p)) (λ a. ran-sound upto (k a))
   execute-keeps (change t p Valid false old) k = tt
+  execute-keeps (change t p Invalid false old) k = go (allHold (old .reads) upto)
+    where
+      go : (holds : Bool) → StepKeeps h view (rerun holds h view upto t p old)
+      go true =
+          record {
+            timestamps = map-timestamps _ (λ u. replace-timestamp t (change t p Valid false old) u refl) h;
+            sound = λ a. map-sound _ (λ u s. replace-sound t (change t p Valid false old) u (stood-sound (k a)) s) h a;
+            viewed = λ n. n;
+          }
+      go false = install-keeps t p false old (runLists upto p) (ran t (runLists upto p)) (λ a. ran-sound upto (k a))
 
 -- the change whose turn it is, if there is one, is sound
 abbrev SoundIfAny : Option Change → Type 0
@@ -182,43 +119,6 @@ round-keeps env h view = go (lowestWaiting h) (waiting-sound h)
     go none k = tt
     go (some c) k = execute-keeps h view (asOf (timestamp c) h env) c k
 
--- ---- a turn by the walk
-
-markLive-timestamps : (live : ℕ → Bool) (h : History) → map timestamp (markLive live h) ≡ map timestamp h
-markLive-timestamps live [] = refl
-markLive-timestamps live (c ∷ h) = ap₂ _∷_ (mark-timestamp _ c) (markLive-timestamps (close live (lists c)) h)
-
-markLive-sound : (live : ℕ → Bool) (h : History) → AllSound h → AllSound (markLive live h)
-markLive-sound live [] a = tt
-markLive-sound live (c ∷ h) a = (marked-sound _ c (a .0), markLive-sound (close live (lists c)) h (a .1))
-
-pass-keeps : (c : Change) (h : History) (view : List ℤ) (s : Step) → StepKeeps h view s → StepKeeps (c ∷ h) view (pass c s)
-pass-keeps c h view idle k = tt
-pass-keeps c h view (turned h' view' e) k =
-    record { timestamps = ap (timestamp c ∷_) (k .timestamps); sound = λ a. (a .0, k .sound (a .1)); viewed = k .viewed }
-
-module _ (env : Environment) (view : List ℤ) where
-  settle-keeps : (t : ℕ) (p : List ℕ) (s : Status) (w : Bool) (old new : Lists) (h : History) (e : Event) → (ChangeSound (change t p s w old) → ChangeSound (change t p Valid w new)) → StepKeeps (change t p s w old ∷ h) view (settle env view t p w old new h e)
-  settle-keeps t p s w old new h e k =
-      record {
-        timestamps = ap (t ∷_) (markLive-timestamps (differs old new env) h);
-        sound = λ a. (k (a .0), markLive-sound (differs old new env) h (a .1));
-        viewed = λ n. refl;
-      }
-
-  retry-keeps : (b : Bool) (t : ℕ) (p : List ℕ) (s : Status) (old : Lists) (h : History) → StepKeeps (change t p s false old ∷ h) view (retry b env view t p old h)
-  retry-keeps true t p s old h =
-      record { timestamps = refl; sound = λ a. (restatus-sound (λ e. cc) (a .0), a .1); viewed = λ n. n }
-  retry-keeps false t p s old h = settle-keeps t p s false old (runLists env p) h (ran t (runLists env p)) (run-sound env)
-
-pub walk-keeps : (env : Environment) (view : List ℤ) (h : History) → StepKeeps h view (walk env view h)
-walk-keeps env view [] = tt
-walk-keeps env view (change t p Valid w l ∷ h) = pass-keeps (change t p Valid w l) h view (walk (after (l .writes) env) view h) (walk-keeps (after (l .writes) env) view h)
-walk-keeps env view (change t p New true l ∷ h) = settle-keeps env view t p New true l empty h (cleared t) cleared-sound
-walk-keeps env view (change t p New false l ∷ h) = settle-keeps env view t p New false l (runLists env p) h (ran t (runLists env p)) (run-sound env)
-walk-keeps env view (change t p Invalid true l ∷ h) = settle-keeps env view t p Invalid true l empty h (cleared t) cleared-sound
-walk-keeps env view (change t p Invalid false l ∷ h) = retry-keeps env view (allHold (l .reads) env) t p Invalid l h
-
 -- ---- a drain
 
 drainFor-keeps : (k : ℕ) (env : Environment) (h : History) (view : List ℤ) → Keeps h view (drainFor k env h view .history) (drainFor k env h view .view)
@@ -236,16 +136,16 @@ drain-keeps env h view = drainFor-keeps (length h) env h view
 
 -- ---- a withdrawal
 
-remove-keeps : (t : ℕ) (h : History) (view : List ℤ) → Keeps h view (map (λ u. cond (eqb (timestamp u) t) (flag u) u) h) view
-remove-keeps t h view =
+flag-timestamp : (u : Change) → timestamp (flag u) ≡ timestamp u
+flag-timestamp (change t p s w l) = refl
+
+pub withdraw-keeps : (t : ℕ) (h : History) (view : List ℤ) → Keeps h view (withdrawIn t h) view
+withdraw-keeps t h view =
     record {
       timestamps = map-timestamps _ (λ u. by-test (λ x. timestamp x ≡ timestamp u) (eqb (timestamp u) t) (λ q. flag-timestamp u) (λ q. refl)) h;
       sound = map-sound _ (λ u k. by-test ChangeSound (eqb (timestamp u) t) (λ q. flag-sound u k) (λ q. k)) h;
       viewed = λ n. n;
     }
-  where
-    flag-timestamp : (u : Change) → timestamp (flag u) ≡ timestamp u
-    flag-timestamp (change t p s w l) = refl
 
 -- ---- sound cabinets
 
@@ -260,39 +160,36 @@ withHistory-sound {c = c} {h} {view} s k =
       small = rw length-putAt (s .small);
       each = putAt-sound (c .order) h (c .changes) (k .sound (history-sound s)) (s .each);
       placed = withHistory-placed c h view (s .placed);
-      rising = rw (withHistory-history c h view (s .placed) (keeps-length k)) (keeps-rising k (s .rising));
+      rising = rw (withHistory-history c h view (s .placed) (keeps-length k)) (keeps-rising 0 k (s .rising));
       viewed = k .viewed (s .viewed);
     }
 
 pub round-sound : {n : ℕ} {c : Cabinet} {h : History} {view : List ℤ} {e : Event} → Sound n c → roundOf c ≡ turned h view e → Sound n (withHistory c h view)
-round-sound {c = c} s q = withHistory-sound s (subst (StepKeeps (historyOf c) (c .view)) q (round-keeps start (historyOf c) (c .view)))
+round-sound {c = c} s q = withHistory-sound s (rw q at (round-keeps start (historyOf c) (c .view)))
 
 pub drain-sound : {n : ℕ} {c : Cabinet} → Sound n c → Sound n (withHistory c (drainOf c .history) (drainOf c .view))
 drain-sound {c = c} s = withHistory-sound s (drain-keeps start (historyOf c) (c .view))
 
 pub remove-sound : {n : ℕ} {c : Cabinet} (t : ℕ) → Sound n c → Sound n (remove t c)
-remove-sound {c = c} t s = withHistory-sound s (remove-keeps t (historyOf c) (c .view))
+remove-sound {c = c} t s = withHistory-sound s (withdraw-keeps t (historyOf c) (c .view))
 
 -- ---- taking in
 
-find-rest : (t : ℕ) (c : Change) (h : History) → find t (c ∷ h) ≡ none → ¬ (timestamp c ≡ t) × (find t h ≡ none)
+-- a timestamp that is not held is not the first, and not held among the others
+pub find-rest : (t : ℕ) (c : Change) (h : History) → find t (c ∷ h) ≡ none → ¬ (timestamp c ≡ t) × (find t h ≡ none)
 find-rest t c h f =
     by-test (λ x. x ≡ none → ¬ (timestamp c ≡ t) × (find t h ≡ none)) (eqb (timestamp c) t)
-    (λ q e. absurd (let z : _≡_ {A = ℕ} 0 1 = cc in omega arith))
+    (λ q e. impossible (cc))
     (λ q e. (eqb-false (timestamp c) t q, e)) f
 
--- a timestamp that is not held is inserted between others
+-- it is inserted between others
 insert-rising : (t : ℕ) (p : List ℕ) → t < infinity → (b : ℕ) (h : History) → b < t → find t h ≡ none → Rising b h → Rising b (insert t p h)
 insert-rising t p i b [] l f r = (l, i, tt)
 insert-rising t p i b (c ∷ h) l f r =
     by-test (Rising b) (ltb t (timestamp c)) (λ q. (l, i, (ltb-true t (timestamp c) q, r .1, r .2)))
     (λ q. let rest = find-rest t c h f in
-    let above : timestamp c < t = omega (arith, ltb-false t (timestamp c) q, rest .0) in
+    let above : timestamp c < t = omega (arith, ltb-false t (timestamp c) q) in
     (r .0, r .1, insert-rising t p i (timestamp c) h above (rest .1) (r .2)))
-
-append-sound : (changes : List Change) (c : Change) → AllSound changes → ChangeSound c → AllSound (changes ++ (c ∷ []))
-append-sound [] c a s = (s, tt)
-append-sound (d ∷ changes) c a s = (a .0, append-sound changes c (a .1) s)
 
 pub add-sound : {n : ℕ} {c : Cabinet} (t : ℕ) (p : List ℕ) → Sound n c → length (c .changes) < n → 0 < t → t < infinity → lengthFits p ≡ true → wellFormed p ≡ true → find t (historyOf c) ≡ none → Sound n (add t p c)
 add-sound {c = c} t p s room above below sized formed free =
@@ -300,11 +197,8 @@ add-sound {c = c} t p s room above below sized formed free =
       some-capacity = s .some-capacity;
       capacity = s .capacity;
       small = simp length-append (omega arith);
-      each = append-sound (c .changes) (change t p New false empty) (s .each) new-sound;
+      each = append-sound (c .changes) (change t p New false empty) (s .each) (new-sound above below sized formed);
       placed = add-placed t p c (s .placed);
       rising = rw (add-history t p c (s .placed)) (insert-rising t p below 0 (historyOf c) above free (s .rising));
       viewed = s .viewed;
     }
-  where
-    new-sound : ChangeSound (change t p New false empty)
-    new-sound = record { above = above; below = below; sized = sized; formed = formed; reads = empty-bounded; writes = empty-bounded; new = λ e. refl }

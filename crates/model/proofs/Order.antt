@@ -11,8 +11,8 @@ use lib.Dec.{eqb}
 use lib.ListN.{length, getD}
 use Rattle.machine.proofs.Cases.{by-test}
 use Rattle.model.specs.History.{infinity, Change, timestamp, History}
-use Rattle.model.specs.Cabinet.{blank, changesAt}
-use Rattle.model.specs.Sound.{Rising, Below, NotIn, AllDistinct, In}
+use Rattle.model.specs.Cabinet.{Cabinet, blank, changesAt}
+use Rattle.model.specs.Sound.{Rising, Below, NotIn, AllDistinct, In, Placed}
 
 -- ---- the changes at some places
 
@@ -26,18 +26,18 @@ module _ (changes : List Change) where
   changesAt-get (i ∷ places) zero h = refl
   changesAt-get (i ∷ places) (suc k) h = changesAt-get places k (omega arith)
 
-  above : (i : ℕ) (places : List ℕ) (b : ℕ) → timestamp (getD changes i blank) ≤ b → Rising b (changesAt changes places) → NotIn i places
-  above i [] b h r = tt
-  above i (j ∷ places) b h r = (
-    λ e. let q : timestamp (getD changes i blank) ≡ timestamp (getD changes j blank) = ap (λ (k : ℕ). timestamp (getD changes k blank)) e in omega (arith, r .0),
-    above i places (timestamp (getD changes j blank)) (omega (arith, r .0)) (r .2),
+  rising-not-in : (i : ℕ) (places : List ℕ) (b : ℕ) → timestamp (getD changes i blank) ≤ b → Rising b (changesAt changes places) → NotIn i places
+  rising-not-in i [] b h r = tt
+  rising-not-in i (j ∷ places) b h r = (
+    λ e. let q : timestamp (getD changes i blank) ≡ timestamp (getD changes j blank) = ap (λ (k : ℕ). timestamp (getD changes k blank)) e in omega arith,
+    rising-not-in i places (timestamp (getD changes j blank)) (omega arith) (r .2),
   )
 
   -- places whose timestamps rise are distinct
   pub rising-distinct : (places : List ℕ) (b : ℕ) → Rising b (changesAt changes places) → AllDistinct places
   rising-distinct [] b r = tt
   rising-distinct (i ∷ places) b r =
-      (above i places (timestamp (getD changes i blank)) (omega arith) (r .2), rising-distinct places (timestamp (getD changes i blank)) (r .2))
+      (rising-not-in i places (timestamp (getD changes i blank)) (omega arith) (r .2), rising-distinct places (timestamp (getD changes i blank)) (r .2))
 
 -- ---- rising timestamps, by neighbours
 
@@ -86,7 +86,7 @@ module _ (m : ℕ) where
   without-below [] b = tt
   without-below (i ∷ places) b =
       by-test (Below m) (eqb i m) (λ t. without-below places (b .1))
-      (λ t. let ne : i ≡ m → ⊥ = eqb-false i m t in (omega (arith, b .0), without-below places (b .1)))
+      (λ t. let ne : i ≡ m → ⊥ = eqb-false i m t in (omega arith, without-below places (b .1)))
 
   without-none : (places : List ℕ) → NotIn m places → length places ≤ length (without m places)
   without-none [] h = omega arith
@@ -103,7 +103,7 @@ module _ (m : ℕ) where
 
 at-most : (n : ℕ) (places : List ℕ) → AllDistinct places → Below n places → length places ≤ n
 at-most zero [] d b = omega arith
-at-most zero (i ∷ places) d b = absurd (omega (arith, b .0))
+at-most zero (i ∷ places) d b = absurd (omega arith)
 at-most (suc n) places d b =
     let q = at-most n (without n places) (without-distinct n places d) (without-below n places b) in
     omega (arith, without-length n places d)
@@ -123,3 +123,7 @@ all-places n places d b e i h = go (in-or-not i places)
     go : In i places ⊎ NotIn i places → In i places
     go (inl q) = q
     go (inr q) = absurd (let z = at-most n (i ∷ places) (q, d) (h, b) in omega arith)
+
+-- so that an order list of distinct held places, as many as are held, has every one
+pub placed-of : (c : Cabinet) → length (c .order) ≡ length (c .changes) → Below (length (c .changes)) (c .order) → AllDistinct (c .order) → Placed c
+placed-of c e b d = record { counted = e; below = b; distinct = d; covers = all-places (length (c .changes)) (c .order) d b e }

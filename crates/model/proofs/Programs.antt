@@ -3,13 +3,11 @@ use mathlib.Core.Path.{_≡_, refl, sym, ap}
 use mathlib.Core.Bool.{true}
 use mathlib.Core.List.{List, [], _∷_}
 use Prim.Native.Nat.{ℕ}
-use borrow.Author.Tests.{leb-true}
-use lib.Dec.{leb}
-use lib.ListN.{length}
 use Rattle.machine.specs.Settings.{Environment, Entry, Holds, Bounded}
 use Rattle.machine.specs.Form.{lengthFits}
 use Rattle.machine.specs.Run.{Outcome}
 use Rattle.machine.proofs.Cases.{both}
+use Rattle.machine.proofs.Form.{length-short}
 use Rattle.machine.proofs.Frame.{run-holds, run-same}
 use Rattle.machine.proofs.Lists.{run-bounded}
 use Rattle.model.specs.History.{Lists, runLists, eqZ, allHold}
@@ -30,8 +28,8 @@ runLists-same env env' p h = ap listsOf (run-same env env' p h)
 
 -- the lists of a run fit the tables
 pub runLists-bounded : (env : Environment) (p : List ℕ) → lengthFits p ≡ true → Bounded (runLists env p .reads) × Bounded (runLists env p .writes)
-unfolding runLists lengthFits
-runLists-bounded env p h = run-bounded env p (leb-true (length p) 256 (both (leb (length p) 256) h .0))
+unfolding runLists
+runLists-bounded env p h = run-bounded env p (length-short p h)
 
 -- the test of a read list says whether it holds
 pub allHold-holds : (l : List Entry) (env : Environment) → allHold l env ≡ true → Holds env l

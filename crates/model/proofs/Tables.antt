@@ -1,43 +1,24 @@
 -- A cabinet laid out in tables is read back.
-use mathlib.Core.Path.{_≡_, refl, sym, ap, ap₂, _∙_}
+use mathlib.Core.Path.{_≡_, refl, ap, ap₂}
 use mathlib.Core.Bool.{Bool, true, false}
 use mathlib.Core.List.{List, [], _∷_, map}
-use Prim.Native.Nat.{ℕ, zero, suc, _*_, _/_, _%_, _≤_, _<_}
-use native.Mathlib.Omega.{arith}
-use borrow.Author.Tests.{leb-true, eqb-true}
-use lib.Dec.{leb}
+use Prim.Native.Nat.{ℕ, _*_, _/_, _≤_, _<_}
 use lib.IntN.{pos}
 use lib.ListN.{length, getD, drop, length-map}
 use lib.Seq.{take-at}
 use Rattle.machine.specs.Settings.{Entry, entries}
-use Rattle.machine.specs.Form.{lengthFits}
-use Rattle.machine.proofs.Cases.{both}
+pub use Rattle.machine.proofs.Form.{length-short}
+use Rattle.machine.proofs.Form.{length-eights}
 use Rattle.model.specs.History.{Status, New, Valid, Invalid, Change, change, timestamp, program, status, withdrawn, lists}
 use Rattle.model.specs.Cabinet.{Cabinet, blank}
 use Rattle.model.specs.Tables.{statusNumber, statusOf, flagNumber, flagOf, column, blocks, settingsOf, valuesOf, encode, heldCount, slots, programAt, readsAt, writesAt, changeAt, decode}
 use Rattle.model.specs.Sound.{ChangeSound, AllSound, Sound}
+pub use Rattle.model.proofs.Sound.{sound-at, all-sound}
 use Rattle.model.proofs.Tabulate.{tabulate-is}
 use Rattle.model.proofs.Blocks.{pad-get, column-get, Fits, blocks-slots}
 use Rattle.model.proofs.Entries.{entries-take, entries-columns}
 
 -- ---- what the tables need of a sound change
-
-pub length-short : (bytes : List ℕ) → lengthFits bytes ≡ true → length bytes ≤ 256
-unfolding lengthFits
-length-short bytes e = leb-true (length bytes) 256 (both (leb (length bytes) 256) e .0)
-
-length-eights : (bytes : List ℕ) → lengthFits bytes ≡ true → 8 * (length bytes / 8) ≡ length bytes
-unfolding lengthFits
-length-eights bytes e = omega (arith, eqb-true (length bytes % 8) 0 (both (leb (length bytes) 256) e .1))
-
-pub sound-at : (changes : List Change) (i : ℕ) → AllSound changes → i < length changes → ChangeSound (getD changes i blank)
-sound-at [] i a h = absurd (omega arith)
-sound-at (c ∷ changes) zero a h = a .0
-sound-at (c ∷ changes) (suc i) a h = sound-at changes i (a .1) (omega arith)
-
-pub all-sound : (changes : List Change) → ((i : ℕ) → i < length changes → ChangeSound (getD changes i blank)) → AllSound changes
-all-sound [] h = tt
-all-sound (c ∷ changes) h = (h 0 (omega arith), all-sound changes (λ i q. h (suc i) (omega arith)))
 
 fits-of : {A : Type 0} (width : ℕ) (f : Change → List A) (changes : List Change) → ((c : Change) → ChangeSound c → length (f c) ≤ width) → AllSound changes → Fits width f changes
 fits-of width f [] k a = tt
@@ -70,23 +51,17 @@ module _ (f : Change → List Entry) (changes : List Change) (k : Fits 32 f chan
 module _ (n : ℕ) (f : Change → List Entry) (changes : List Change) (i : ℕ) (k : Fits 32 f changes) (h : i < length changes) where
   pub settings-back : slots 32 i (length (f (getD changes i blank))) (blocks n 32 0 (λ d. settingsOf (f d)) changes) ≡ settingsOf (f (getD changes i blank))
   settings-back =
-      ap (λ (m : ℕ). slots 32 i m (blocks n 32 0 (λ d. settingsOf (f d)) changes)) (sym (length-map (f (getD changes i blank)) (λ (e : Entry). e .setting)))
-      ∙ blocks-slots n 32 0 (λ d. settingsOf (f d)) changes i (settings-fit f changes k) h
+      rw (← length-map (f (getD changes i blank)) (λ (e : Entry). e .setting)) (blocks-slots n 32 0 (λ d. settingsOf (f d)) changes i (settings-fit f changes k) h)
 
   values-back : slots 32 i (length (f (getD changes i blank))) (blocks n 32 (pos 0) (λ d. valuesOf (f d)) changes) ≡ valuesOf (f (getD changes i blank))
   values-back =
-      ap (λ (m : ℕ). slots 32 i m (blocks n 32 (pos 0) (λ d. valuesOf (f d)) changes)) (sym (length-map (f (getD changes i blank)) (λ (e : Entry). e .value)))
-      ∙ blocks-slots n 32 (pos 0) (λ d. valuesOf (f d)) changes i (values-fit f changes k) h
+      rw (← length-map (f (getD changes i blank)) (λ (e : Entry). e .value)) (blocks-slots n 32 (pos 0) (λ d. valuesOf (f d)) changes i (values-fit f changes k) h)
 
   -- the list, from its count and its two columns
   list-back : f blank ≡ [] → entries (getD (column n 0 (λ d. length (f d)) changes) i 0) (drop (32 * i) (blocks n 32 0 (λ d. settingsOf (f d)) changes)) (drop (32 * i) (blocks n 32 (pos 0) (λ d. valuesOf (f d)) changes)) ≡ f (getD changes i blank)
   list-back b =
-      let settings = drop (32 * i) (blocks n 32 0 (λ d. settingsOf (f d)) changes) in
-      let values = drop (32 * i) (blocks n 32 (pos 0) (λ d. valuesOf (f d)) changes) in
-      ap (λ (m : ℕ). entries m settings values) (column-get n 0 (λ d. length (f d)) changes i (ap length b))
-      ∙ sym (entries-take (length (f (getD changes i blank))) settings values)
-      ∙ ap₂ (entries (length (f (getD changes i blank)))) settings-back values-back
-      ∙ entries-columns (f (getD changes i blank))
+      rw (column-get n 0 (λ d. length (f d)) changes i (ap length b), ← entries-take (length (f (getD changes i blank))), settings-back, values-back)
+      (entries-columns (f (getD changes i blank)))
 
 pub held-count : (n : ℕ) (c : Cabinet) → heldCount (encode n c) ≡ length (c .changes)
 unfolding encode
@@ -122,7 +97,7 @@ module _ (n : ℕ) (c : Cabinet) (i : ℕ) where
   unfolding encode
   writes-at = column-get n 0 (λ d. length (lists d .writes)) (c .changes) i refl
 
-status-back : (s : Status) → statusOf (statusNumber s) ≡ s
+pub status-back : (s : Status) → statusOf (statusNumber s) ≡ s
 status-back New = refl
 status-back Valid = refl
 status-back Invalid = refl
@@ -131,22 +106,18 @@ flag-back : (w : Bool) → flagOf (flagNumber w) ≡ w
 flag-back false = refl
 flag-back true = refl
 
-by-fields : {t t' : ℕ} {p p' : List ℕ} {s s' : Status} {w w' : Bool} {r r' u u' : List Entry} → t ≡ t' → p ≡ p' → s ≡ s' → w ≡ w' → r ≡ r' → u ≡ u' → change t p s w (record { reads = r; writes = u }) ≡ change t' p' s' w' (record { reads = r'; writes = u' })
-by-fields e0 e1 e2 e3 e4 e5 = cc
-
 fields : (x : Change) → change (timestamp x) (program x) (status x) (withdrawn x) (lists x) ≡ x
 fields (change t p s w l) = refl
 
 module _ (n : ℕ) (c : Cabinet) (s : Sound n c) (i : ℕ) (h : i < length (c .changes)) where
   -- eight times the stored length is the program's
   pub length-back : 8 * getD (encode n c .lengths) i 0 ≡ length (program (getD (c .changes) i blank))
-  length-back = ap (8 *_) (length-at n c i) ∙ length-eights (program (getD (c .changes) i blank)) (sound-at (c .changes) i (s .each) h .sized)
+  length-back = rw (length-at n c i) (length-eights (program (getD (c .changes) i blank)) (sound-at (c .changes) i (s .each) h .sized))
 
   pub program-back : programAt (encode n c) i ≡ program (getD (c .changes) i blank)
   unfolding encode
   program-back =
-      ap (λ (m : ℕ). slots 256 i m (blocks n 256 0 program (c .changes))) length-back
-      ∙ blocks-slots n 256 0 program (c .changes) i (programs-fit (c .changes) (s .each)) h
+      rw length-back (blocks-slots n 256 0 program (c .changes) i (programs-fit (c .changes) (s .each)) h)
 
   pub reads-back : readsAt (encode n c) i ≡ lists (getD (c .changes) i blank) .reads
   unfolding encode
@@ -159,8 +130,8 @@ module _ (n : ℕ) (c : Cabinet) (s : Sound n c) (i : ℕ) (h : i < length (c .c
   -- the change at a place
   pub change-back : changeAt (encode n c) i ≡ getD (c .changes) i blank
   change-back =
-      by-fields (timestamp-at n c i) program-back (ap statusOf (status-at n c i) ∙ status-back _) (ap flagOf (withdrawn-at n c i) ∙ flag-back _) reads-back writes-back
-      ∙ fields (getD (c .changes) i blank)
+      rw (timestamp-at n c i, program-back, status-at n c i, status-back, withdrawn-at n c i, flag-back, reads-back, writes-back)
+      (fields (getD (c .changes) i blank))
 
 pub decode-encode : (n : ℕ) (c : Cabinet) → Sound n c → decode (encode n c) ≡ c
 unfolding encode decode

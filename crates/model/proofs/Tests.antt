@@ -1,18 +1,19 @@
 -- What the tests of the tables' lengths and of their form say.
-use mathlib.Core.Path.{_≡_, refl, sym, ap, ap₂, subst, _∙_}
+use mathlib.Core.Path.{_≡_, refl, ap, ap₂}
 use mathlib.Core.Bool.{Bool, true, false, not, _&&_, _||_, or-true}
 use mathlib.Core.List.{List, [], _∷_}
 use Prim.Native.Nat.{ℕ, zero, suc, _-_, _*_, _≤_, _<_}
 use native.Mathlib.Omega.{arith}
 use borrow.Author.Tests.{leb-true, ltb-true, eqb-true, le-leb, lt-ltb, eq-eqb, ne-eqb}
 use lib.Dec.{eqb, leb, ltb}
-use lib.IntN.{ℤ, pos, negsuc}
+use lib.IntN.{ℤ, pos}
 use lib.ListN.{length, getD, drop, replicate}
 use Rattle.words.specs.Words.{isZero}
+use Rattle.words.specs.Meaning.{isZero-only}
 use Rattle.machine.specs.Settings.{settingCount}
-use Rattle.machine.specs.Form.{allBelow, wellFormed}
-use Rattle.machine.proofs.Cases.{both, true-is-not-false}
-use Rattle.machine.proofs.Form.{all-below}
+use Rattle.machine.specs.Form.{wellFormed}
+use Rattle.machine.proofs.Cases.{both, either}
+use Rattle.machine.proofs.Form.{all-below, below-all}
 use Rattle.model.specs.History.{infinity, isTimestamp}
 use Rattle.model.specs.Tables.{Tables, heldCount, slots, programAt}
 use Rattle.model.specs.Form.{every, lengthsFit, allZero, allZeroZ, restOf, headFits, programFits, distinctSettings, listFits, timestampOf, orderFits, unusedFits, inForm, lengthTests, unusedTests, formTests}
@@ -25,40 +26,25 @@ every-at [] k e = refl
 every-at (b ∷ tests) zero e = both b e .0
 every-at (b ∷ tests) (suc k) e = every-at tests k (both b e .1)
 
--- every place below k passes
-below-all : (k : ℕ) (test : ℕ → Bool) → ((i : ℕ) → i < k → test i ≡ true) → allBelow k test ≡ true
-unfolding allBelow
-below-all zero test h = refl
-below-all (suc k) test h = rw (below-all k test (λ i q. h i (omega arith)), h k (omega arith))
-
--- the second test where the first fails
-either : (a : Bool) {b : Bool} → (a || b) ≡ true → a ≡ false → b ≡ true
-either true e q = true-is-not-false q
-either false e q = e
-
 -- ---- zeros
 
 pub zeros : (l : List ℕ) (k : ℕ) → length l ≡ k → allZero l ≡ true → l ≡ replicate k 0
-zeros l k h e = go l e ∙ ap (λ (m : ℕ). replicate m 0) h
+zeros l k h e = rw (← h) (go l e)
   where
     go : (l : List ℕ) → allZero l ≡ true → l ≡ replicate (length l) 0
     go [] e = refl
-    go (x ∷ l) e = ap₂ _∷_ (eqb-true x 0 (both (eqb x 0) e .0)) (go l (both (eqb x 0) e .1))
+    go (x ∷ l) e = ap₂ _∷_ (eqb-true x 0 (both _ e .0)) (go l (both (eqb x 0) e .1))
 
 pub zeros-pass : (k : ℕ) → allZero (replicate k 0) ≡ true
 zeros-pass zero = refl
 zeros-pass (suc k) = zeros-pass k
 
-is-zero : (x : ℤ) → isZero x ≡ true → x ≡ pos 0
-is-zero (pos n) e = ap pos (eqb-true n 0 e)
-is-zero (negsuc n) e = true-is-not-false (sym e)
-
 pub zerosZ : (l : List ℤ) (k : ℕ) → length l ≡ k → allZeroZ l ≡ true → l ≡ replicate k (pos 0)
-zerosZ l k h e = go l e ∙ ap (λ (m : ℕ). replicate m (pos 0)) h
+zerosZ l k h e = rw (← h) (go l e)
   where
     go : (l : List ℤ) → allZeroZ l ≡ true → l ≡ replicate (length l) (pos 0)
     go [] e = refl
-    go (x ∷ l) e = ap₂ _∷_ (is-zero x (both (isZero x) e .0)) (go l (both (isZero x) e .1))
+    go (x ∷ l) e = ap₂ _∷_ (isZero-only x (both _ e .0)) (go l (both (isZero x) e .1))
 
 pub zerosZ-pass : (k : ℕ) → allZeroZ (replicate k (pos 0)) ≡ true
 zerosZ-pass zero = refl
@@ -128,21 +114,18 @@ head-of T i e =
     let t = getD (T .timestamps) i 0 in
     let s = getD (T .status) i 0 in
     let r = getD (T .reads) i 0 in
-    let w = getD (T .writes) i 0 in
     let e0 = both (isTimestamp t) e in
     let e1 = both (leb s 2) (e0 .1) in
     let e2 = both (leb (getD (T .withdrawn) i 0) 1) (e1 .1) in
-    let e3 = both (not (eqb s 0) || (eqb r 0 && eqb w 0)) (e2 .1) in
     record {
-      above = ltb-true 0 t (both (ltb 0 t) (e0 .0) .0);
-      below = ltb-true t infinity (both (ltb 0 t) (e0 .0) .1);
-      status = leb-true s 2 (e1 .0);
-      withdrawn = leb-true (getD (T .withdrawn) i 0) 1 (e2 .0);
+      above = ltb-true _ _ (both _ (e0 .0) .0);
+      below = ltb-true _ _ (both (ltb 0 t) (e0 .0) .1);
+      status = leb-true _ _ (e1 .0);
+      withdrawn = leb-true _ _ (e2 .0);
       new =
           λ q.
-          let z : not (eqb s 0) ≡ false = ap not (eq-eqb s 0 q) in
-          let u = both (eqb r 0) (either (not (eqb s 0)) (e3 .0) z) in
-          (eqb-true r 0 (u .0), eqb-true w 0 (u .1));
+          let none = both (eqb r 0) (either (not (eqb s 0)) (both _ (e2 .1) .0) (ap not (eq-eqb s 0 q))) in
+          (eqb-true _ _ (none .0), eqb-true _ _ (none .1));
     }
 
 head-fits : (T : Tables) (i : ℕ) → Head T i → headFits (T .timestamps) (T .status) (T .withdrawn) (T .reads) (T .writes) i ≡ true
@@ -163,7 +146,7 @@ program-of : (T : Tables) (i : ℕ) → programFits (T .lengths) (T .programs) i
 program-of T i e =
     let e0 = both (leb (getD (T .lengths) i 0) 32) e in
     let e1 = both (wellFormed (programAt T i)) (e0 .1) in
-    record { short = leb-true (getD (T .lengths) i 0) 32 (e0 .0); formed = e1 .0; rest = both (allZero (restOf 256 i (8 * getD (T .lengths) i 0) (T .programs))) (e1 .1) .0 }
+    record { short = leb-true _ _ (e0 .0); formed = e1 .0; rest = both _ (e1 .1) .0 }
 
 program-fits : (T : Tables) (i : ℕ) → Programmed T i → programFits (T .lengths) (T .programs) i ≡ true
 program-fits T i h = rw (le-leb _ _ (h .short), h .formed, h .rest)
@@ -181,7 +164,7 @@ list-of counts settings values i e =
     let e0 = both (leb c 32) e in
     let e1 = both (distinctSettings (slots 32 i c settings)) (e0 .1) in
     let e2 = both (allZero (restOf 32 i c settings)) (e1 .1) in
-    record { short = leb-true c 32 (e0 .0); distinct = e1 .0; settings-rest = e2 .0; values-rest = both (allZeroZ (restOf 32 i c values)) (e2 .1) .0 }
+    record { short = leb-true _ _ (e0 .0); distinct = e1 .0; settings-rest = e2 .0; values-rest = both _ (e2 .1) .0 }
 
 list-fits : (counts settings : List ℕ) (values : List ℤ) (i : ℕ) → Listed counts settings values i → listFits counts settings values i ≡ true
 list-fits counts settings values i h = rw (le-leb _ _ (h .short), h .distinct, h .settings-rest, h .values-rest)
@@ -190,18 +173,17 @@ previous : (k : ℕ) → suc k - 1 ≡ k
 previous k = omega arith
 
 order-place : (T : Tables) (n k : ℕ) → orderFits (T .order) (T .timestamps) n k ≡ true → getD (T .order) k 0 < n
-order-place T n k e = ltb-true _ n (both (ltb (getD (T .order) k 0) n) e .0)
+order-place T n k e = ltb-true _ _ (both _ e .0)
 
 order-rising : (T : Tables) (n k : ℕ) → orderFits (T .order) (T .timestamps) n (suc k) ≡ true → timestampOf (T .order) (T .timestamps) k < timestampOf (T .order) (T .timestamps) (suc k)
 order-rising T n k e =
     let later = either (eqb (suc k) 0) (both (ltb (getD (T .order) (suc k) 0) n) e .1) (ne-eqb (suc k) 0 (λ q. omega arith)) in
-    subst (λ (j : ℕ). timestampOf (T .order) (T .timestamps) j < timestampOf (T .order) (T .timestamps) (suc k)) (previous k) (ltb-true _ _ later)
+    ltb-true _ _ (rw (previous k) at later)
 
 order-fits : (T : Tables) (n k : ℕ) → getD (T .order) k 0 < n → ((j : ℕ) → suc j ≡ k → timestampOf (T .order) (T .timestamps) j < timestampOf (T .order) (T .timestamps) k) → orderFits (T .order) (T .timestamps) n k ≡ true
 order-fits T n zero h r = rw (lt-ltb _ _ h)
 order-fits T n (suc k) h r =
-    let later : ltb (timestampOf (T .order) (T .timestamps) (suc k - 1)) (timestampOf (T .order) (T .timestamps) (suc k)) ≡ true = lt-ltb _ _ (subst (λ (j : ℕ). timestampOf (T .order) (T .timestamps) j < timestampOf (T .order) (T .timestamps) (suc k)) (sym (previous k)) (r k refl)) in
-    rw (lt-ltb _ _ h, later) (or-true (eqb (suc k) 0))
+    rw (lt-ltb _ _ h, previous k, lt-ltb _ _ (r k refl)) (or-true (eqb (suc k) 0))
 
 -- ---- the slots of places that are not held
 
@@ -248,12 +230,12 @@ form-of n T e =
     let test : (j : ℕ) → getD (formTests n T) j true ≡ true = λ j. every-at (formTests n T) j e in
     record {
       small = leb-true _ _ (test 0);
-      heads = λ i h. head-of T i (all-below k (headFits (T .timestamps) (T .status) (T .withdrawn) (T .reads) (T .writes)) (test 1) i h);
-      places = λ i h. order-place T k i (all-below k (orderFits (T .order) (T .timestamps) k) (test 2) i h);
-      rising = λ i h. order-rising T k i (all-below k (orderFits (T .order) (T .timestamps) k) (test 2) (suc i) h);
-      programs = λ i h. program-of T i (all-below k (programFits (T .lengths) (T .programs)) (test 3) i h);
-      reads = λ i h. list-of (T .reads) (T .sources) (T .seen) i (all-below k (listFits (T .reads) (T .sources) (T .seen)) (test 4) i h);
-      writes = λ i h. list-of (T .writes) (T .targets) (T .written) i (all-below k (listFits (T .writes) (T .targets) (T .written)) (test 5) i h);
+      heads = λ i h. head-of T i (all-below _ _ (test 1) i h);
+      places = λ i h. order-place T k i (all-below _ _ (test 2) i h);
+      rising = λ i h. order-rising T k i (all-below _ _ (test 2) (suc i) h);
+      programs = λ i h. program-of T i (all-below _ _ (test 3) i h);
+      reads = λ i h. list-of (T .reads) (T .sources) (T .seen) i (all-below _ _ (test 4) i h);
+      writes = λ i h. list-of (T .writes) (T .targets) (T .written) i (all-below _ _ (test 5) i h);
       unused = unused-of T k (test 6);
     }
 
@@ -261,9 +243,9 @@ pub form-fits : (n : ℕ) (T : Tables) → FormTests n T → inForm n T ≡ true
 unfolding inForm
 form-fits n T f =
     let k = heldCount T in
-    let heads = below-all k (headFits (T .timestamps) (T .status) (T .withdrawn) (T .reads) (T .writes)) (λ i h. head-fits T i (f .heads i h)) in
-    let order = below-all k (orderFits (T .order) (T .timestamps) k) (λ i h. order-fits T k i (f .places i h) (λ j e. subst (λ (m : ℕ). timestampOf (T .order) (T .timestamps) j < timestampOf (T .order) (T .timestamps) m) e (f .rising j (omega arith)))) in
-    let programs = below-all k (programFits (T .lengths) (T .programs)) (λ i h. program-fits T i (f .programs i h)) in
-    let reads = below-all k (listFits (T .reads) (T .sources) (T .seen)) (λ i h. list-fits (T .reads) (T .sources) (T .seen) i (f .reads i h)) in
-    let writes = below-all k (listFits (T .writes) (T .targets) (T .written)) (λ i h. list-fits (T .writes) (T .targets) (T .written) i (f .writes i h)) in
+    let heads = below-all k _ (λ i h. head-fits T i (f .heads i h)) in
+    let order = below-all k _ (λ i h. order-fits T k i (f .places i h) (λ j e. rw (← e) (f .rising j (omega arith)))) in
+    let programs = below-all k _ (λ i h. program-fits T i (f .programs i h)) in
+    let reads = below-all k _ (λ i h. list-fits (T .reads) (T .sources) (T .seen) i (f .reads i h)) in
+    let writes = below-all k _ (λ i h. list-fits (T .writes) (T .targets) (T .written) i (f .writes i h)) in
     rw (le-leb _ _ (f .small), heads, order, programs, reads, writes, unused-fits T k (f .unused))

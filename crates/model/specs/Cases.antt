@@ -8,9 +8,10 @@ use lib.IntN.{ℤ, pos, negsuc}
 use lib.ListN.{replicate}
 use Rattle.words.specs.Words.{patternOf, numberOf, wrap, floorDiv, onesOf}
 use Rattle.machine.specs.Settings.{settingCount, named, entries, lookup}
-use Rattle.machine.specs.Instruction.{instructionAt, instructionsFrom, programOf}
+use Rattle.machine.specs.Instruction.{Program, instructionAt, instructionsFrom, programOf}
 use Rattle.machine.specs.Form.{isWellFormed, allBelow, lengthFits, wellFormed}
 use Rattle.machine.specs.Run.{effect, shiftRight, enter, load, store, perform, step, runFrom, runProgram, run}
+use Rattle.machine.specs.Examples.{instruction, constant, reading, writing}
 use Rattle.model.specs.declared.Answer.{Answer}
 use Rattle.model.specs.declared.Turned.{Turned}
 use Rattle.model.specs.declared.Turned.the-variants.{Ran, Stood, Cleared}
@@ -32,46 +33,37 @@ use Rattle.model.specs.Log.{drainEvents}
 
 -- ---- programs
 
--- an instruction's 8 bytes
-abbrev instruction : ℕ → ℕ → ℕ → ℕ → ℤ → List ℕ
-instruction o a b c n =
-    let p = patternOf n in
-    o ∷ a ∷ b ∷ c ∷ p % 256 ∷ p / 256 % 256 ∷ p / 65536 % 256 ∷ p / 16777216 ∷ []
-
--- ra = n, ra = setting n, setting n = ra
-abbrev constant : ℕ → ℤ → List ℕ
-constant a n = instruction 1 a 0 0 n
-
-abbrev reading : ℕ → ℕ → List ℕ
-reading a s = instruction 11 a 0 0 (pos s)
-
-abbrev writing : ℕ → ℕ → List ℕ
-writing s a = instruction 13 a 0 0 (pos s)
+-- a program's bytes, 8 for each instruction
+abbrev bytesOf : Program → List ℕ
+bytesOf [] = []
+bytesOf (i ∷ program) =
+    let p = patternOf (i .n) in
+    i .operation ∷ i .a ∷ i .b ∷ i .c ∷ p % 256 ∷ p / 256 % 256 ∷ p / 65536 % 256 ∷ p / 16777216 ∷ bytesOf program
 
 -- sets setting s to v
-abbrev sets : ℕ → ℤ → List ℕ
-sets s v = constant 0 v ++ writing s 0
+abbrev sets : ℕ → ℤ → Program
+sets s v = constant 0 v ∷ writing s 0 ∷ []
 
 -- copies setting s to r
-abbrev copies : ℕ → ℕ → List ℕ
-copies s r = reading 0 s ++ writing r 0
+abbrev copies : ℕ → ℕ → Program
+copies s r = reading 0 s ∷ writing r 0 ∷ []
 
 -- adds n to setting s, subtracts n from it; the new value stays in register 2
-abbrev adds : ℕ → ℤ → List ℕ
-adds s n = reading 0 s ++ constant 1 n ++ instruction 3 2 0 1 (pos 0) ++ writing s 2
+abbrev adds : ℕ → ℤ → Program
+adds s n = reading 0 s ∷ constant 1 n ∷ instruction 3 2 0 1 (pos 0) ∷ writing s 2 ∷ []
 
-abbrev subtracts : ℕ → ℤ → List ℕ
-subtracts s n = reading 0 s ++ constant 1 n ++ instruction 4 2 0 1 (pos 0) ++ writing s 2
+abbrev subtracts : ℕ → ℤ → Program
+subtracts s n = reading 0 s ∷ constant 1 n ∷ instruction 4 2 0 1 (pos 0) ∷ writing s 2 ∷ []
 
 -- stops if register 2 is not negative, else sets setting s to 1
-abbrev alarms : ℕ → List ℕ
-alarms s = instruction 15 0 2 0 (pos 1) ++ instruction 0 0 0 0 (pos 0) ++ sets s (pos 1)
+abbrev alarms : ℕ → Program
+alarms s = instruction 15 0 2 0 (pos 1) ∷ instruction 0 0 0 0 (pos 0) ∷ sets s (pos 1)
 
 -- ---- the table
 
 -- a step of a script: every taking in and withdrawal is to be answered done; the entries of a package are to be answered as listed behind it
 data Action : Type 0 where
-  takesIn : ℕ → List ℕ → Action
+  takesIn : ℕ → Program → Action
   takesInPackage : List ℕ → List ℕ → Action
   withdraws : ℕ → Action
   turns : Action
@@ -184,10 +176,10 @@ P10 : Case
 P10 =
     record {
       script =
-          takesIn 10 (constant 0 (negsuc 2147483647) ++ instruction 5 1 0 0 (pos 0) ++ writing 34 1)
-          ∷ takesIn 20 (constant 0 (pos 2147483647) ++ constant 1 (pos 1) ++ instruction 3 2 0 1 (pos 0) ++ writing 35 2)
-          ∷ takesIn 30 (constant 0 (negsuc 4) ++ instruction 6 1 0 0 (pos 1) ++ writing 36 1)
-          ∷ takesIn 40 (constant 0 (negsuc 0) ++ instruction 7 1 0 0 (pos 0) ++ writing 37 1)
+          takesIn 10 (constant 0 (negsuc 2147483647) ∷ instruction 5 1 0 0 (pos 0) ∷ writing 34 1 ∷ [])
+          ∷ takesIn 20 (constant 0 (pos 2147483647) ∷ constant 1 (pos 1) ∷ instruction 3 2 0 1 (pos 0) ∷ writing 35 2 ∷ [])
+          ∷ takesIn 30 (constant 0 (negsuc 4) ∷ instruction 6 1 0 0 (pos 1) ∷ writing 36 1 ∷ [])
+          ∷ takesIn 40 (constant 0 (negsuc 0) ∷ instruction 7 1 0 0 (pos 0) ∷ writing 37 1 ∷ [])
           ∷ [];
       turned = Ran 10 ∷ Ran 20 ∷ Ran 30 ∷ Ran 40 ∷ [];
       answer = counted 4 0 0;
@@ -233,7 +225,7 @@ sample-package : Case
 sample-package =
     record {
       script =
-          takesInPackage (3 ∷ 0 ∷ (listed 20 0 2 ++ listed 10 0 2 ++ listed 15 1 0 ++ copies 34 50 ++ sets 34 (pos 7))) (0 ∷ 0 ∷ 10 ∷ [])
+          takesInPackage (3 ∷ 0 ∷ (listed 20 0 2 ++ listed 10 0 2 ++ listed 15 1 0 ++ bytesOf (copies 34 50 ++ sets 34 (pos 7)))) (0 ∷ 0 ∷ 10 ∷ [])
           ∷ [];
       turned = Ran 10 ∷ Ran 20 ∷ [];
       answer = counted 2 0 0;
@@ -278,7 +270,7 @@ abbrev follow : Progress → Reply Answer → Progress
 follow s r = record { tables = r .tables; done = ifDone (r .answer) (s .done) false }
 
 abbrev carryOut : Action → Progress → Progress
-carryOut (takesIn t p) s = follow s (takeIn capacity (s .tables) t p)
+carryOut (takesIn t p) s = follow s (takeIn capacity (s .tables) t (bytesOf p))
 carryOut (takesInPackage bytes answers) s =
     let r = takeInPackage capacity (s .tables) bytes (replicate 512 0) in
     record { tables = r .tables; done = ifDone (r .answer) (sameBytes (r .answers) (pad 512 0 answers) && s .done) false }

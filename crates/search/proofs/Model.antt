@@ -103,7 +103,7 @@ module _ (n : ℕ) (T : Tables) (e : lengthsFit n T ≡ true) (q : inForm n T �
     change-of = changesAt-get (decode T .changes) (decode T .order) k (omega (arith, sound .placed .counted, held-changes))
 
     -- the change at a position of the order list
-    by-place : getD (decode T .changes) (getD (T .order) k 0) blank ≡ getD (historyIn T) k blank
+    pub by-place : getD (decode T .changes) (getD (T .order) k 0) blank ≡ getD (historyIn T) k blank
     by-place = ap (λ (i : ℕ). getD (decode T .changes) i blank) (place-of k) ∙ sym change-of
 
     stamped : stampIn T k ≡ timestamp (getD (historyIn T) k blank)
@@ -112,7 +112,7 @@ module _ (n : ℕ) (T : Tables) (e : lengthsFit n T ≡ true) (q : inForm n T �
         ∙ timestamp-at n (decode T) (getD (T .order) k 0)
         ∙ ap timestamp by-place
 
-    wrote : writesIn (T .writes) (T .targets) (T .written) (getD (T .order) k 0) ≡ lists (getD (historyIn T) k blank) .writes
+    pub wrote : writesIn (T .writes) (T .targets) (T .written) (getD (T .order) k 0) ≡ lists (getD (historyIn T) k blank) .writes
     wrote =
         ap (λ (U : Tables). writesAt U (getD (T .order) k 0)) (sym laid)
         ∙ writes-back n (decode T) sound (getD (T .order) k 0) (omega (arith, form .places k h, held-changes))

@@ -66,12 +66,6 @@ pub fn all_zero_u16(s: &[u16]) -> bool
     rest_zero_u16(s, 0)
 }
 
-pub fn all_zero_u64(s: &[u64]) -> bool
-    ensures { λ r. ⌜ r ≡ allZero (now (s .entry)) ⌝ }
-{
-    rest_zero_u64(s, 0)
-}
-
 pub fn all_zero_i32(s: &[i32]) -> bool
     ensures { λ r. ⌜ r ≡ allZeroZ (now (s .entry)) ⌝ }
 {

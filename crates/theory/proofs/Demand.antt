@@ -4,19 +4,21 @@ use mathlib.Core.Bool.{true}
 use mathlib.Core.List.{List}
 use Prim.Native.Nat.{ℕ}
 use native.Mathlib.Omega.{arith}
-use Rattle.model.specs.Cabinet.{Cabinet, emptyCabinet, withHistory}
+use Rattle.model.specs.Cabinet.{Cabinet, emptyCabinet}
 use Rattle.model.specs.Tables.{Tables, encode, decode}
 use Rattle.model.specs.Form.{lengthsFit}
-use Rattle.model.specs.Calls.{setUp, drainOf}
+use Rattle.model.specs.Calls.{setUp}
 use Rattle.model.specs.Log.{Call, Ledger, afterCalls, begun}
 use Rattle.model.specs.Sound.{Sound}
 use Rattle.model.proofs.Keeps.{drain-sound}
+use Rattle.model.proofs.Order.{placed-of}
 use Rattle.model.proofs.Tests.{Lengths, lengths-of}
 use Rattle.model.proofs.Tables.{held-count, decode-encode}
 use Rattle.model.proofs.Form.{encode-form}
 use Rattle.theory.specs.Demand.{Drains, Demand3}
 use Rattle.theory.proofs.Invariant.{empty-invariant}
-use Rattle.theory.proofs.Reached.{Holding, Reached, drain-call, drain-events, drained-back, drained-claim, calls-reached}
+use Rattle.theory.proofs.Calls.{drained, drain-call, drain-events, drained-history}
+use Rattle.theory.proofs.Reached.{Holding, Reached, drained-claim, calls-reached}
 
 -- a cabinet with nothing held
 empty-sound : (n : ℕ) (T : Tables) → Lengths n T → Sound n emptyCabinet
@@ -26,7 +28,7 @@ empty-sound n T l =
       capacity = l .capacity;
       small = omega arith;
       each = tt;
-      placed = record { counted = refl; below = tt; distinct = tt; covers = λ i h. absurd (omega arith) };
+      placed = placed-of emptyCabinet refl tt tt;
       rising = tt;
       viewed = refl;
     }
@@ -49,18 +51,17 @@ drains : (n : ℕ) (c : Cabinet) (k : Ledger) → Holding n c k → Drains n k
 drains n c k h =
     let s = h .sound in
     let claim = drained-claim h in
-    let after : Cabinet = withHistory c (drainOf c .history) (drainOf c .view) in
-    let back : decode (encode n after) ≡ after = decode-encode n after (drain-sound s) in
+    let back : decode (encode n (drained c)) ≡ drained c = decode-encode n (drained c) (drain-sound s) in
     rw (h .tables)
     (record {
       answered = rw (drain-call s, drain-events s);
-      fresh-lists = rw (drain-call s, back, drained-back s) (rw (h .booked) at (claim .fresh-lists));
-      no-others = rw (drain-call s, back, held-count n after) (drain-sound s .placed .covers);
-      fresh-view = rw (drain-call s, view-of n after) (rw (h .booked) at (claim .fresh-view));
+      fresh-lists = rw (drain-call s, back, drained-history s) (rw (h .booked) at (claim .fresh-lists));
+      no-others = rw (drain-call s, back, held-count n (drained c)) (drain-sound s .placed .covers);
+      fresh-view = rw (drain-call s, view-of n (drained c)) (rw (h .booked) at (claim .fresh-view));
       one-turn-each = rw (drain-events s) (claim .one-turn-each);
       none-in-vain = rw (drain-events s) (rw (h .booked) at (claim .none-in-vain));
       form-before = encode-form n c s;
-      form-after = rw (drain-call s) (encode-form n after (drain-sound s));
+      form-after = rw (drain-call s) (encode-form n (drained c) (drain-sound s));
     })
 
 -- demand 3

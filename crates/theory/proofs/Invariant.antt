@@ -1,15 +1,14 @@
 -- What holds of the history, the view and the turns so far, between any two calls.
 use mathlib.Core.Path.{_≡_, refl}
 use mathlib.Core.Bool.{true, false}
-use mathlib.Core.List.{List, [], _∷_}
+use mathlib.Core.List.{List, [], _∷_, map}
 use mathlib.Core.Option.{none, some}
 use Prim.Native.Nat.{ℕ}
 use lib.IntN.{ℤ}
 use Rattle.machine.specs.Settings.{Environment}
-use Rattle.model.specs.History.{start, New, Valid, Invalid, empty, runLists, Change, change, History, afterChange, afterAll, allSettings}
+use Rattle.model.specs.History.{start, New, Valid, Invalid, empty, runLists, Change, change, timestamp, History, afterChange, afterAll, allSettings}
 use Rattle.model.specs.Figure.{Event}
-use Rattle.model.specs.Book.{Book, bookedAt, bookOf}
-use Rattle.model.specs.Sound.{Rising}
+use Rattle.model.specs.Sound.{NotIn}
 use Rattle.theory.specs.Demand.{lastRan}
 
 -- the lists of a change by its status and flag, where env is the settings as of it: New, or Valid and withdrawn: none; Valid: those of a run on these settings; Invalid: those of a run on some settings
@@ -36,18 +35,12 @@ abbrev pub AllTraced : List Event → History → Type 0
 AllTraced events [] = Unit {0}
 AllTraced events (c ∷ h) = Traced events c × AllTraced events h
 
--- the book has no change of this timestamp
-abbrev pub NotBooked : ℕ → Book → Type 0
-NotBooked t [] = Unit {0}
-NotBooked t (b ∷ book) = ¬ (bookedAt b ≡ t) × NotBooked t book
-
 pub record Invariant (events : List Event) (h : History) (view : List ℤ) : Type 0 where
   pub consistent : AllConsistent start h
   pub viewed : view ≡ allSettings (afterAll h start)
-  pub rising : Rising 0 h
   pub traced : AllTraced events h
-  pub unheld : (t : ℕ) → NotBooked t (bookOf h) → lastRan events t ≡ none
+  pub unheld : (t : ℕ) → NotIn t (map timestamp h) → lastRan events t ≡ none
 
 -- nothing held, every setting at its start, no turns
 pub empty-invariant : Invariant [] [] (allSettings start)
-empty-invariant = record { consistent = tt; viewed = refl; rising = tt; traced = tt; unheld = λ t n. refl }
+empty-invariant = record { consistent = tt; viewed = refl; traced = tt; unheld = λ t n. refl }

@@ -4,6 +4,7 @@ pub mod Marking
 pub mod Turns
 pub mod Drains
 pub mod Items
+pub mod Calls
 pub mod Reached
 pub mod AnyTables
 pub mod Demand

@@ -1,18 +1,17 @@
 -- What marking keeps, where the settings as of the first change become others that agree with them on every setting that is not live.
 use mathlib.Core.Path.{_≡_, refl, sym, ap, _∙_}
-use mathlib.Core.Bool.{Bool, true, false, not, _&&_, _||_}
+use mathlib.Core.Bool.{Bool, true, false, not, _&&_}
 use mathlib.Core.List.{List, [], _∷_}
 use mathlib.Core.Option.{Option, none, some}
 use Prim.Native.Nat.{ℕ}
 use borrow.Author.Tests.{not-false}
 use lib.IntN.{ℤ}
 use Rattle.machine.specs.Settings.{Environment, Entry, _orElse_, isSome, lookup, Holds, after}
-use Rattle.machine.proofs.Cases.{true-is-not-false}
+use Rattle.machine.proofs.Cases.{true-is-not-false, neither}
 use Rattle.model.specs.History.{New, Valid, Invalid, Lists, runLists, Change, change, lists, History, afterChange, afterAll}
 use Rattle.model.specs.Figure.{Event, readsAny, mark, markUpdate}
 use Rattle.model.specs.Walk.{differs, close, markLive, liveAtEnd}
 use Rattle.model.specs.Book.{booked, bookOf}
-use Rattle.model.specs.Sound.{Rising}
 use Rattle.model.proofs.Values.{eqZ-true}
 use Rattle.model.proofs.Programs.{runLists-holds, runLists-same}
 use Rattle.theory.proofs.Invariant.{Consistent, AllConsistent, Traced, AllTraced}
@@ -36,11 +35,9 @@ close-agree live l env env' a x h = go (lookup (l .writes) x) (live x) (a x) h
 unread-holds : (live : ℕ → Bool) (env env' : Environment) → Agree live env env' → (l : List Entry) → readsAny live l ≡ false → Holds env l → Holds env' l
 unfolding Holds
 unread-holds live env env' a [] h k = tt
-unread-holds live env env' a (e ∷ l) h k = go (live (e .setting)) (a (e .setting)) (unread-holds live env env' a l) h
-  where
-    go : (b : Bool) → (b ≡ false → env (e .setting) ≡ env' (e .setting)) → (readsAny live l ≡ false → Holds env l → Holds env' l) → (b || readsAny live l) ≡ false → Holds env' (e ∷ l)
-    go true q ih h = true-is-not-false h
-    go false q ih h = (sym (q refl) ∙ k .0, ih h (k .1))
+unread-holds live env env' a (e ∷ l) h k =
+    let n = neither (live (e .setting)) h in
+    (sym (a (e .setting) (n .0)) ∙ k .0, unread-holds live env env' a l (n .1) (k .1))
 
 mark-consistent : (live : ℕ → Bool) (env env' : Environment) → Agree live env env' → (c : Change) → Consistent env c → Consistent env' (markUpdate (readsAny live (lists c .reads)) c)
 mark-consistent live env env' a (change t p New w l) k = k
@@ -63,10 +60,6 @@ marked-consistent live env env' a (change t p s w l ∷ h) k = (
 pub marked-after : (live : ℕ → Bool) (h : History) (env : Environment) → afterAll (markLive live h) env ≡ afterAll h env
 marked-after live [] env = refl
 marked-after live (change t p s w l ∷ h) env = marked-after (close live l) h (after (l .writes) env)
-
-pub marked-rising : (live : ℕ → Bool) (b : ℕ) (h : History) → Rising b h → Rising b (markLive live h)
-marked-rising live b [] r = tt
-marked-rising live b (change t p s w l ∷ h) r = (r .0, r .1, marked-rising (close live l) t h (r .2))
 
 pub marked-book : (live : ℕ → Bool) (h : History) → bookOf (markLive live h) ≡ bookOf h
 marked-book live [] = refl

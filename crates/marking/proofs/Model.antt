@@ -1,0 +1,56 @@
+-- Marking in tables that are in form, the view that follows, and a change replaced, as they are on the history that the tables hold.
+use mathlib.Core.Path.{_≡_, refl, subst}
+use mathlib.Core.Bool.{Bool, true, cond}
+use mathlib.Core.List.{List, _∷_, _++_}
+use Prim.Native.Nat.{ℕ, suc, _<_}
+use lib.IntN.{ℤ}
+use lib.ListN.{length, getD, take, drop}
+use Rattle.machine.specs.Settings.{settingCount, Environment, valueIn}
+use Rattle.machine.proofs.Cases.{by-test₂}
+use Rattle.model.specs.History.{Change, allSettings}
+use Rattle.model.specs.Walk.{markLive, liveAtEnd}
+use Rattle.model.specs.Cabinet.{blank, changesAt, historyOf, putAt, withHistory}
+use Rattle.model.specs.Tables.{Tables, heldCount, encode, decode}
+use Rattle.model.specs.Form.{lengthsFit, inForm}
+use Rattle.model.specs.Sound.{Sound}
+use Rattle.model.proofs.Tables.{held-count}
+use Rattle.model.proofs.Values.{allSettings-same}
+use Rattle.model.proofs.Form.{decode-sound, encode-decode}
+use Rattle.marking.specs.Raw.{isLive, followed, Walkable}
+use Rattle.marking.proofs.Live.{statuses, Agree}
+use Rattle.marking.proofs.Cabinet.{markedIn, liveIn, walkable, live-past, marked-past}
+use Rattle.marking.proofs.Replace.{settledIn, Replaces, settled}
+
+-- the view with the new value of each live setting
+pub view-follows : (live : List ℕ) (values view : List ℤ) (f : ℕ → Bool) (new : Environment) → Agree (isLive live) f → ((x : ℕ) → x < settingCount → f x ≡ true → valueIn values x ≡ new x) → followed live values view ≡ allSettings (λ x. cond (f x) (new x) (valueIn view x))
+unfolding followed
+view-follows live values view f new agree values-new =
+    allSettings-same (λ x. cond (isLive live x) (valueIn values x) (valueIn view x)) (λ x. cond (f x) (new x) (valueIn view x))
+    (λ x h. rw (agree x h) (by-test₂ (λ u v. u ≡ v) (f x) (values-new x h) (λ t. refl)))
+
+module _ (n : ℕ) (T : Tables) (e : lengthsFit n T ≡ true) (q : inForm n T ≡ true) where
+  sound : Sound n (decode T)
+  sound = decode-sound n T e q
+
+  laid : encode n (decode T) ≡ T
+  laid = encode-decode n T e q
+
+  -- for `mark_later`
+  pub walkable-form : Walkable (heldCount T) (T .order) (length (T .status)) (T .reads) (T .sources) (T .writes) (T .targets)
+  walkable-form = subst (λ (U : Tables). Walkable (heldCount U) (U .order) (length (U .status)) (U .reads) (U .sources) (U .writes) (U .targets)) laid (walkable n (decode T) sound)
+
+  -- f is what is live
+  module _ (live : List ℕ) (f : ℕ → Bool) (agree : Agree (isLive live) f) (k : ℕ) where
+    -- what is live past the changes from a position on
+    pub live-at-end : Agree (isLive (liveIn T k live)) (liveAtEnd f (drop k (historyOf (decode T))))
+    live-at-end = subst (λ (U : Tables). Agree (isLive (liveIn U k live)) (liveAtEnd f (drop k (historyOf (decode T))))) laid (live-past n (decode T) sound live f agree k)
+
+    -- the statuses of some changes with those from a position on marked
+    pub marked-from : (now : List Change) → length now ≡ length (decode T .changes) → changesAt now (drop k (decode T .order)) ≡ drop k (historyOf (decode T)) → markedIn T k live (statuses n now) ≡ statuses n (putAt (drop k (decode T .order)) (markLive f (drop k (historyOf (decode T)))) now)
+    marked-from now m p = subst (λ (U : Tables). markedIn U k live (statuses n now) ≡ statuses n (putAt (drop k (decode T .order)) (markLive f (drop k (historyOf (decode T)))) now)) laid (marked-past n (decode T) sound live f agree k now m p)
+
+    -- the change at a position replaced, the later ones marked
+    pub settled-tables : k < heldCount T → (new : Change) → Replaces new (getD (historyOf (decode T)) k blank) → (view : List ℤ) → settledIn T k new live view ≡ encode n (withHistory (decode T) (take k (historyOf (decode T)) ++ new ∷ markLive f (drop (suc k) (historyOf (decode T)))) view)
+    settled-tables h new r view =
+        subst (λ (U : Tables). k < heldCount U → settledIn U k new live view ≡ encode n (withHistory (decode T) (take k (historyOf (decode T)) ++ new ∷ markLive f (drop (suc k) (historyOf (decode T)))) view)) laid
+        (λ g. settled n (decode T) sound k (rw (held-count n (decode T)) at g) new f r live agree view) h

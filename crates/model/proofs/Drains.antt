@@ -1,0 +1,138 @@
+-- A drain, on a history by rising timestamp: by rounds or by walks it is the same, it ends with every change Valid, and its turns go by rising timestamp.
+use mathlib.Core.Path.{_≡_, refl, ap, _∙_}
+use mathlib.Core.Bool.{Bool, true, false}
+use mathlib.Core.List.{List, [], _∷_}
+use mathlib.Core.Option.{none, some}
+use Prim.Native.Nat.{ℕ, zero, suc, _+_, _<_, _≤_}
+use native.Mathlib.Omega.{arith}
+use lib.IntN.{ℤ}
+use lib.ListN.{length}
+use Rattle.machine.specs.Settings.{Environment, after}
+use Rattle.model.specs.History.{New, Valid, Invalid, Lists, empty, runLists, Change, change, timestamp, History, allHold}
+use Rattle.model.specs.Figure.{Event, ran, stood, cleared, eventTimestamp, Step, idle, turned, lowestWaiting, roundAt, round}
+use Rattle.model.specs.Drain.{Drain, drainNone, drainMore, drainStep, drainFor, drainHistory}
+use Rattle.model.specs.Walk.{close, markLive, pass, retry, walk, walkFor}
+use Rattle.model.specs.Sound.{Rising}
+use Rattle.model.proofs.Round.{WaitsAbove, rising-waits, round-walk}
+use Rattle.model.proofs.Keeps.{StepKeeps, keeps-length, keeps-rising, round-keeps, drain-keeps}
+
+-- a drain by rounds is a drain by walks
+pub drain-walk : (env : Environment) (h : History) (view : List ℤ) (b : ℕ) (k : ℕ) → Rising b h → drainFor k env h view ≡ walkFor k env h view
+unfolding drainFor walkFor
+drain-walk env h view b zero r = refl
+drain-walk env h view b (suc k) r =
+    go (λ h' view'. drain-walk env h' view' b k) (round env h view) (round-keeps env h view)
+    ∙ ap (drainStep (walkFor k env) (drainNone h view)) (round-walk env h view b r)
+  where
+    go : ((h' : History) (view' : List ℤ) → Rising b h' → drainFor k env h' view' ≡ walkFor k env h' view') → (s : Step) → StepKeeps h view s → drainStep (drainFor k env) (drainNone h view) s ≡ drainStep (walkFor k env) (drainNone h view) s
+    go ih idle q = refl
+    go ih (turned h' view' e) q = ap (drainMore e) (ih h' view' (keeps-rising b q r))
+
+-- ---- a turn
+
+abbrev pub AllValid : History → Type 0
+AllValid [] = Unit {0}
+AllValid (change t p New w l ∷ h) = ⊥
+AllValid (change t p Invalid w l ∷ h) = ⊥
+AllValid (change t p Valid w l ∷ h) = AllValid h
+
+-- how many Valid changes stand before the first that waits
+abbrev validBefore : History → ℕ
+validBefore [] = 0
+validBefore (change t p New w l ∷ h) = 0
+validBefore (change t p Invalid w l ∷ h) = 0
+validBefore (change t p Valid w l ∷ h) = suc (validBefore h)
+
+-- the turn is of the lowest change that waits, and of those that wait after it none is lower
+record Ordered (h h' : History) (e : Event) : Type 0 where
+  lowest : (a : ℕ) → WaitsAbove a h → a < eventTimestamp e
+  later : WaitsAbove (eventTimestamp e) h'
+  more-valid : validBefore h < validBefore h'
+
+abbrev OrderedStep : History → Step → Type 0
+OrderedStep h idle = AllValid h
+OrderedStep h (turned h' view e) = Ordered h h' e
+
+ordered-pass : (t : ℕ) (p : List ℕ) (w : Bool) (l : Lists) (h : History) (s : Step) → OrderedStep h s → OrderedStep (change t p Valid w l ∷ h) (pass (change t p Valid w l) s)
+ordered-pass t p w l h idle k = k
+ordered-pass t p w l h (turned h' view e) k = record { lowest = k .lowest; later = k .later; more-valid = omega arith }
+
+-- the first change had the turn
+ordered-first : (c : Change) (h h' : History) (p : List ℕ) (w : Bool) (new : Lists) (e : Event) → lowestWaiting (c ∷ h) ≡ some c → validBefore (c ∷ h) ≡ 0 → eventTimestamp e ≡ timestamp c → Rising (timestamp c) h' → Ordered (c ∷ h) (change (timestamp c) p Valid w new ∷ h') e
+ordered-first c h h' p w new e k z q r =
+    record { lowest = λ a f. rw q (f c k); later = rw q (rising-waits (timestamp c) h' r); more-valid = omega arith }
+
+mark-rising : (live : ℕ → Bool) (b : ℕ) (h : History) → Rising b h → Rising b (markLive live h)
+mark-rising live b [] r = tt
+mark-rising live b (change t p s w l ∷ h) r = (r .0, r .1, mark-rising (close live l) t h (r .2))
+
+walk-ordered : (env : Environment) (view : List ℤ) (b : ℕ) (h : History) → Rising b h → OrderedStep h (walk env view h)
+walk-ordered env view b [] r = tt
+walk-ordered env view b (change t p Valid w l ∷ h) r =
+    ordered-pass t p w l h (walk (after (l .writes) env) view h) (walk-ordered (after (l .writes) env) view t h (r .2))
+walk-ordered env view b (change t p New true l ∷ h) r =
+    ordered-first (change t p New true l) h _ p true empty (cleared t) refl refl refl (mark-rising _ t h (r .2))
+walk-ordered env view b (change t p New false l ∷ h) r =
+    ordered-first (change t p New false l) h _ p false (runLists env p) (ran t (runLists env p)) refl refl refl (mark-rising _ t h (r .2))
+walk-ordered env view b (change t p Invalid true l ∷ h) r =
+    ordered-first (change t p Invalid true l) h _ p true empty (cleared t) refl refl refl (mark-rising _ t h (r .2))
+walk-ordered env view b (change t p Invalid false l ∷ h) r = go (allHold (l .reads) env)
+  where
+    go : (holds : Bool) → OrderedStep (change t p Invalid false l ∷ h) (retry holds env view t p l h)
+    go true = ordered-first (change t p Invalid false l) h h p false l (stood t) refl refl refl (r .2)
+    go false = ordered-first (change t p Invalid false l) h _ p false (runLists env p) (ran t (runLists env p)) refl refl refl (mark-rising _ t h (r .2))
+
+-- ---- a drain's end
+
+-- the timestamps of some turns rise above a bound
+abbrev pub RisingEvents : ℕ → List Event → Type 0
+RisingEvents a [] = Unit {0}
+RisingEvents a (e ∷ events) = (a < eventTimestamp e) × RisingEvents (eventTimestamp e) events
+
+record Finished (a : ℕ) (d : Drain) : Type 0 where
+  all-valid : AllValid (d .history)
+  rising-events : RisingEvents a (d .events)
+
+enough-valid : (h : History) → length h ≤ validBefore h → AllValid h
+enough-valid [] q = tt
+enough-valid (change t p New w l ∷ h) q = absurd (omega arith)
+enough-valid (change t p Invalid w l ∷ h) q = absurd (omega arith)
+enough-valid (change t p Valid w l ∷ h) q = enough-valid h (omega arith)
+
+drain-finishes : (k : ℕ) (env : Environment) (a : ℕ) (h : History) (view : List ℤ) → Rising 0 h → WaitsAbove a h → length h ≤ k + validBefore h → Finished a (drainFor k env h view)
+unfolding drainFor
+drain-finishes zero env a h view r w q = record { all-valid = enough-valid h (omega arith); rising-events = tt }
+drain-finishes (suc k) env a h view r w q =
+    go (drain-finishes k env) (round env h view) (round-keeps env h view)
+    (rw (round-walk env h view 0 r) (walk-ordered env view 0 h r))
+  where
+    go : ((a' : ℕ) (h' : History) (view' : List ℤ) → Rising 0 h' → WaitsAbove a' h' → length h' ≤ k + validBefore h' → Finished a' (drainFor k env h' view')) → (s : Step) → StepKeeps h view s → OrderedStep h s → Finished a (drainStep (drainFor k env) (drainNone h view) s)
+    go ih idle n m = record { all-valid = m; rising-events = tt }
+    go ih (turned h' view' e) n m =
+        let d = ih (eventTimestamp e) h' view' (keeps-rising 0 n r) (m .later) (omega (arith, keeps-length n)) in
+        record { all-valid = d .all-valid; rising-events = (m .lowest a w, d .rising-events) }
+
+none-waits : (h : History) → AllValid h → lowestWaiting h ≡ none
+none-waits [] k = refl
+none-waits (change t p New w l ∷ h) k = absurd k
+none-waits (change t p Invalid w l ∷ h) k = absurd k
+none-waits (change t p Valid w l ∷ h) k = none-waits h k
+
+-- no turn is left after a drain; the timestamps of its turns rise, so that no change had two
+pub record DrainEnds (env : Environment) (d : Drain) : Type 0 where
+  pub idle-next : round env (d .history) (d .view) ≡ idle
+  pub all-valid : AllValid (d .history)
+  pub rising : Rising 0 (d .history)
+  pub rising-events : RisingEvents 0 (d .events)
+
+pub drain-ends : (env : Environment) (h : History) (view : List ℤ) → Rising 0 h → DrainEnds env (drainHistory env h view)
+unfolding round drainHistory
+drain-ends env h view r =
+    let d = drainFor (length h) env h view in
+    let f = drain-finishes (length h) env 0 h view r (rising-waits 0 h r) (omega arith) in
+    record {
+      idle-next = ap (roundAt env (d .history) (d .view)) (none-waits (d .history) (f .all-valid));
+      all-valid = f .all-valid;
+      rising = keeps-rising 0 (drain-keeps env h view) r;
+      rising-events = f .rising-events;
+    }

@@ -1,0 +1,98 @@
+-- The calls on the tables of a sound cabinet: what they answer, and that they leave the tables of a sound cabinet.
+use mathlib.Core.Path.{_≡_, refl, sym, ap}
+use mathlib.Core.Bool.{cond, not}
+use mathlib.Core.List.{List, [], _∷_}
+use Prim.Native.Nat.{ℕ}
+use lib.Dec.{eqb}
+use lib.ListN.{length}
+use Rattle.machine.proofs.Cases.{by-test, by-test₂}
+use Rattle.model.specs.declared.Drained.the-variants as drain-answer
+use Rattle.model.specs.History.{start}
+use Rattle.model.specs.Figure.{Step, idle, turned}
+use Rattle.model.specs.Drain.{totals}
+use Rattle.model.specs.Cabinet.{Cabinet, historyOf, withHistory}
+use Rattle.model.specs.Tables.{Tables, encode}
+use Rattle.model.specs.Refusals.{firstOf, wrongLength, notInForm, test}
+use Rattle.model.specs.Package.{Item, taking, withdrawing, layoutFits, itemsOf}
+use Rattle.model.specs.Calls.{itemAnswer, itemCall, takeIn, withdraw, itemStep, itemSteps, PackageReply, takeInPackage, stepReply, roundOf, turn, drainOf, drain}
+use Rattle.model.specs.Log.{Call, takeInCall, packageCall, withdrawCall, turnCall, drainCall, turnEvents, drainEvents, stepEvents, Ledger, afterCall}
+use Rattle.model.specs.Sound.{Sound}
+use Rattle.model.proofs.Cabinet.{withHistory-history}
+use Rattle.model.proofs.Keeps.{keeps-length, drain-keeps, round-sound, drain-sound}
+use Rattle.model.proofs.Items.{of-answer, item-sound, items-sound}
+use Rattle.model.proofs.Tables.{decode-encode}
+use Rattle.model.proofs.Form.{encode-lengths, encode-form}
+
+-- ---- the cabinet after a call
+
+abbrev pub afterStep : Cabinet → Step → Cabinet
+afterStep c idle = c
+afterStep c (turned h view e) = withHistory c h view
+
+abbrev pub drained : Cabinet → Cabinet
+drained c = withHistory c (drainOf c .history) (drainOf c .view)
+
+-- the refusal of a package, or 0
+abbrev pub packageRefusal : ℕ → Cabinet → List ℕ → List ℕ → ℕ
+packageRefusal n c bytes answers =
+    firstOf (wrongLength n (encode n c) (length answers) 512 ∷ notInForm n (encode n c) ∷ test 3 (not (layoutFits bytes)) ∷ [])
+
+abbrev pub cabinetAfter : ℕ → Call → Cabinet → Cabinet
+cabinetAfter n (takeInCall t p) c = itemStep n c (taking t p)
+cabinetAfter n (packageCall bytes answers) c = cond (eqb (packageRefusal n c bytes answers) 0) (itemSteps n c (itemsOf bytes)) c
+cabinetAfter n (withdrawCall t) c = itemStep n c (withdrawing t)
+cabinetAfter n turnCall c = afterStep c (roundOf c)
+cabinetAfter n drainCall c = drained c
+
+-- ---- answers
+
+module _ {n : ℕ} {c : Cabinet} (s : Sound n c) where
+  pub item-call : (i : Item) → itemCall n (encode n c) i ≡ record { answer = itemAnswer n c i; tables = encode n (itemStep n c i) }
+  item-call i =
+      rw (encode-lengths n c s, encode-form n c s, decode-encode n c s)
+      (ap (λ (T : Tables). record { answer = itemAnswer n c i; tables = T }) (sym (of-answer (encode n) (itemAnswer n c i) refl refl)))
+
+  pub turn-call : turn n (encode n c) ≡ stepReply n (encode n c) c (roundOf c)
+  unfolding turn
+  turn-call = rw (encode-lengths n c s, encode-form n c s, decode-encode n c s)
+
+  pub turn-events : turnEvents n (encode n c) ≡ stepEvents (roundOf c)
+  turn-events = rw (encode-lengths n c s, encode-form n c s, decode-encode n c s)
+
+  pub drain-call : drain n (encode n c) ≡ record { answer = drain-answer.Counted (totals (drainOf c .events)); tables = encode n (drained c) }
+  unfolding drain
+  drain-call = rw (encode-lengths n c s, encode-form n c s, decode-encode n c s)
+
+  pub drain-events : drainEvents n (encode n c) ≡ drainOf c .events
+  drain-events = rw (encode-lengths n c s, encode-form n c s, decode-encode n c s)
+
+  pub drained-history : historyOf (drained c) ≡ drainOf c .history
+  drained-history = withHistory-history c (drainOf c .history) (drainOf c .view) (s .placed) (keeps-length (drain-keeps start (historyOf c) (c .view)))
+
+-- ---- tables
+
+module _ {n : ℕ} {c : Cabinet} (s : Sound n c) where
+  pub call-tables : (call : Call) (k : Ledger) → k .tables ≡ encode n c → afterCall n call k .tables ≡ encode n (cabinetAfter n call c)
+  unfolding afterCall takeIn withdraw takeInPackage
+  call-tables (takeInCall t p) k e = rw (e, item-call s (taking t p))
+  call-tables (withdrawCall t) k e = rw (e, item-call s (withdrawing t))
+  call-tables (packageCall bytes answers) k e =
+      rw (e, decode-encode n c s)
+      (by-test₂ (λ (r : PackageReply) (d : Cabinet). r .tables ≡ encode n d) (eqb (packageRefusal n c bytes answers) 0) (λ q. refl) (λ q. refl))
+  call-tables turnCall k e = rw (e, turn-call s) (go (roundOf c))
+    where
+      go : (x : Step) → stepReply n (encode n c) c x .tables ≡ encode n (afterStep c x)
+      go idle = refl
+      go (turned h view event) = refl
+  call-tables drainCall k e = rw (e, drain-call s)
+
+  pub call-sound : (call : Call) → Sound n (cabinetAfter n call c)
+  call-sound (takeInCall t p) = item-sound (taking t p) s
+  call-sound (withdrawCall t) = item-sound (withdrawing t) s
+  call-sound (packageCall bytes answers) = by-test (Sound n) (eqb (packageRefusal n c bytes answers) 0) (λ q. items-sound (itemsOf bytes) s) (λ q. s)
+  call-sound turnCall = go (roundOf c) refl
+    where
+      go : (x : Step) → roundOf c ≡ x → Sound n (afterStep c x)
+      go idle q = s
+      go (turned h view event) q = round-sound s q
+  call-sound drainCall = drain-sound s
