@@ -1,0 +1,45 @@
+-- `queries::current_value` meets its contract: an outcome for each return. Assumes nothing.
+use mathlib.Core.Path.{ap, _∙_}
+use native.Mathlib.Omega.{arith}
+use borrow.Author.Needs.{needs, sfits-of}
+use mir.Facts.{toZ-ofZ}
+use Rattle.model.specs.declared.Value.the-variants as value
+use Rattle.model.specs.Tables.{Tables, tables}
+use Rattle.model.proofs.Tests.{lengths-of}
+use Rattle.queries.proofs.Refusals.{Faultless, faultless}
+use Rattle.queries.proofs.Outcomes.{current-fault, current-no-setting, current-is}
+use Rattle.queries.proofs.current_value.Statement.{statement}
+use Rattle.queries.proofs.current_value.Tie as tie
+
+abbrev lent : tie.Start → Tables
+lent s =
+    let a = s .args in
+    tables (a .held .now) (a .timestamps .now) (a .order .now) (a .status .now) (a .withdrawn .now) (a .lengths .now) (a .programs .now) (a .reads .now) (a .writes .now) (a .sources .now) (a .seen .now) (a .targets .now) (a .written .now) (a .view .now)
+
+abbrev entry : tie.After-fault → tie.Start
+entry c = c .before .before .before .before .before .before .before .before .before .before .before .before
+
+fits : (c : tie.Else1) → let s = entry (c .before) in Faultless (s .args .n) (lent s)
+fits c = faultless _ (lent (entry (c .before))) (c .before .fault .ensures) (c .if1 .left)
+
+returns : tie.Need-returns
+returns c = current-fault _ (lent (entry (c .before))) _ (c .before .fault .ensures) (c .if1 .taken)
+
+returns-2 : tie.Need-returns-2
+returns-2 c =
+    let u = c .before .before in
+    ap value.Is (toZ-ofZ (sfits-of (c .t21 .given))) ∙ current-is _ (lent (entry (u .before))) _ (fits u) (c .before .if2 .taken)
+
+returns-3 : tie.Need-returns-3
+returns-3 c = current-no-setting _ (lent (entry (c .before .before))) _ (fits (c .before)) (c .if2 .left)
+
+pub current-value-spec : {M : Type 1} → statement M
+current-value-spec =
+    tie.close
+    (tie.spec
+    (λ c κs. tt)
+    returns
+    (λ c. search needs)
+    (λ c. omega (arith, lengths-of _ _ (fits (c .before) .0) .view, c .if2 .taken))
+    returns-2
+    returns-3)
