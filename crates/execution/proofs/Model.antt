@@ -4,23 +4,23 @@ use mathlib.Core.Bool.{true, false, not}
 use mathlib.Core.List.{List, [], _∷_}
 use mathlib.Core.Logic.{_⊎_, inl, inr}
 use mathlib.Core.Option.{Option, none, some}
-use Prim.Native.Nat.{ℕ, zero, suc, _+_, _-_, _*_, _≤_, _<_}
+use Prim.Native.Nat.{ℕ, zero, suc, _+_, _*_, _≤_, _<_}
 use native.Mathlib.Omega.{arith}
 use lib.Dec.{eqb}
 use lib.IntN.{ℤ, pos}
-use lib.ListN.{length, getD, take, drop, replicate, length-drop, length-map}
+use lib.ListN.{length, getD, take, drop, replicate, length-drop}
 use lib.Seq.{split-at, take-all}
 use Rattle.machine.specs.Settings.{settingCount, Environment, Entry, entries, Distinct, after}
 use Rattle.machine.specs.Form.{wellFormed}
 use Rattle.machine.proofs.Cases.{true-is-not-false}
 use Rattle.model.specs.History.{start, Status, New, Valid, Invalid, Lists, Change, program, status, lists, History, afterAll}
 use Rattle.model.specs.Cabinet.{blank}
-use Rattle.model.specs.Tables.{Tables, statusNumber, settingsOf, valuesOf, heldCount, slots, programAt, readsAt, encode, decode}
+use Rattle.model.specs.Tables.{Tables, statusNumber, settingsOf, heldCount, slots, programAt, readsAt, encode, decode}
 use Rattle.model.specs.Form.{lengthsFit, inForm}
 use Rattle.model.specs.Figure.{idle}
 use Rattle.model.specs.Walk.{differs, walk}
 use Rattle.model.specs.Sound.{ChangeSound, Sound}
-use Rattle.model.proofs.Entries.{entries-columns, settings-entries, values-entries}
+use Rattle.model.proofs.Entries.{settings-entries}
 use Rattle.model.proofs.Figure.{AllValid}
 use Rattle.model.proofs.Form.{decode-sound, encode-decode}
 use Rattle.model.proofs.Tables.{length-short, sound-at, status-at, program-back, reads-back}
@@ -34,27 +34,9 @@ use Rattle.execution.proofs.Passes.{passes, walk-past, walk-valid, all-
 
 -- ---- parts of tables
 
--- the part of a table from the start of a place on, as it is lent
-abbrev pub partAt : {A : Type 0} → ℕ → ℕ → ℕ → List A → List A
-partAt width place count l = take (width * place + count - width * place) (drop (width * place) l)
-
-part-is : {A : Type 0} (width place count : ℕ) (l : List A) → partAt width place count l ≡ slots width place count l
-part-is width place count l =
-    let e : width * place + count - width * place ≡ count = omega arith in
-    ap (λ (m : ℕ). slots width place m l) e
-
--- the parts of a place: its program, the settings that it read, the values seen, the settings that it wrote
-abbrev pub programPart : Tables → ℕ → List ℕ
-programPart T place = partAt 256 place (8 * getD (T .lengths) place 0) (T .programs)
-
-abbrev pub sourcesPart : Tables → ℕ → List ℕ
-sourcesPart T place = partAt 32 place (getD (T .reads) place 0) (T .sources)
-
-abbrev pub seenPart : Tables → ℕ → List ℤ
-seenPart T place = partAt 32 place (getD (T .reads) place 0) (T .seen)
-
-abbrev pub targetsPart : Tables → ℕ → List ℕ
-targetsPart T place = partAt 32 place (getD (T .writes) place 0) (T .targets)
+-- the settings that the change at a place wrote
+abbrev pub targetsAt : Tables → ℕ → List ℕ
+targetsAt T place = slots 32 place (getD (T .writes) place 0) (T .targets)
 
 -- the settings of distinct entries are settings
 settings-below : (l : List Entry) → Distinct l → (i : ℕ) → i < length (settingsOf l) → getD (settingsOf l) i 0 < settingCount
@@ -127,7 +109,7 @@ module _ (n : ℕ) (T : Tables) (e : lengthsFit n T ≡ true) (q : inForm n T �
   pub placed-status : Placed (heldCount T) (T .order) (length (T .status))
   placed-status = record { long = omega (arith, lengths .order, form .small); below = λ k h. omega (arith, form .places k h, lengths .status, form .small) }
 
-  status-of : (k : ℕ) → k < heldCount T → getD (T .status) (getD (T .order) k 0) 0 ≡ statusNumber (status (getD (historyIn T) k blank))
+  pub status-of : (k : ℕ) → k < heldCount T → getD (T .status) (getD (T .order) k 0) 0 ≡ statusNumber (status (getD (historyIn T) k blank))
   status-of k h =
       ap (λ (U : Tables). getD (U .status) (getD (T .order) k 0) 0) (sym laid)
       ∙ status-at n (decode T) (getD (T .order) k 0)
@@ -186,49 +168,32 @@ module _ (n : ℕ) (T : Tables) (e : lengthsFit n T ≡ true) (q : inForm n T �
     here-sound = rw (by-place n T e q k h) at (sound-at (decode T .changes) place (sound .each) place-held)
 
     -- for `run_at`: its program
-    pub program-part : programPart T place ≡ program here
-    program-part =
-        part-is 256 place (8 * getD (T .lengths) place 0) (T .programs)
-        ∙ ap (λ (U : Tables). programAt U place) (sym laid)
+    pub program-here : programAt T place ≡ program here
+    program-here =
+        ap (λ (U : Tables). programAt U place) (sym laid)
         ∙ program-back n (decode T) sound place place-held
         ∙ ap program (by-place n T e q k h)
 
-    pub program-runs : (length (programPart T place) ≤ 256) × (wellFormed (programPart T place) ≡ true)
-    program-runs = rw program-part (length-short (program here) (here-sound .sized), here-sound .formed)
+    pub program-size : length (program here) ≤ 256
+    program-size = length-short (program here) (here-sound .sized)
+
+    pub program-formed : wellFormed (programAt T place) ≡ true
+    program-formed = rw program-here (here-sound .formed)
 
     -- for `seen_hold`: its reads
-    read : readsAt T place ≡ lists here .reads
-    read =
+    pub reads-here : readsAt T place ≡ lists here .reads
+    reads-here =
         ap (λ (U : Tables). readsAt U place) (sym laid)
         ∙ reads-back n (decode T) sound place place-held
         ∙ ap (λ (c : Change). lists c .reads) (by-place n T e q k h)
 
-    sources-part : sourcesPart T place ≡ settingsOf (lists here .reads)
-    sources-part =
-        part-is 32 place (getD (T .reads) place 0) (T .sources)
-        ∙ sym (settings-entries (getD (T .reads) place 0) (drop (32 * place) (T .sources)) (drop (32 * place) (T .seen)) (simp length-drop (omega (arith, form .reads place (form .places k h) .short, lengths .seen, place-room))))
-        ∙ ap settingsOf read
-
-    seen-part : seenPart T place ≡ valuesOf (lists here .reads)
-    seen-part =
-        part-is 32 place (getD (T .reads) place 0) (T .seen)
-        ∙ sym (values-entries (getD (T .reads) place 0) (drop (32 * place) (T .sources)) (drop (32 * place) (T .seen)) (simp length-drop (omega (arith, form .reads place (form .places k h) .short, lengths .sources, place-room))))
-        ∙ ap valuesOf read
-
-    pub seen-lengths : length (sourcesPart T place) ≡ length (seenPart T place)
-    seen-lengths = rw (sources-part, seen-part) (simp length-map)
-
-    pub seen-entries : entries (length (sourcesPart T place)) (sourcesPart T place) (seenPart T place) ≡ lists here .reads
-    seen-entries = rw (sources-part, seen-part, length-map) (entries-columns (lists here .reads))
-
     -- for `mark_changed`: the settings that it writes
-    targets-part : targetsPart T place ≡ settingsOf (lists here .writes)
+    targets-part : targetsAt T place ≡ settingsOf (lists here .writes)
     targets-part =
-        part-is 32 place (getD (T .writes) place 0) (T .targets)
-        ∙ sym (settings-entries (getD (T .writes) place 0) (drop (32 * place) (T .targets)) (drop (32 * place) (T .written)) (simp length-drop (omega (arith, form .writes place (form .places k h) .short, lengths .written, place-room))))
+        sym (settings-entries (getD (T .writes) place 0) (drop (32 * place) (T .targets)) (drop (32 * place) (T .written)) (simp length-drop (omega (arith, form .writes place (form .places k h) .short, lengths .written, place-room))))
         ∙ ap settingsOf (wrote n T e q k h)
 
-    pub targets-below : (i : ℕ) → i < length (targetsPart T place) → getD (targetsPart T place) i 0 < settingCount
+    pub targets-below : (i : ℕ) → i < length (targetsAt T place) → getD (targetsAt T place) i 0 < settingCount
     targets-below = rw targets-part (settings-below (lists here .writes) (here-sound .writes .distinct))
 
     pub place-written : place < length (T .writes)
@@ -249,7 +214,7 @@ module _ (n : ℕ) (T : Tables) (e : lengthsFit n T ≡ true) (q : inForm n T �
       -- marked for the old settings and then for the new, those that differ are live, and no other
       pub live-differs :
           let mark = markedLive (oldIn T k) (newIn T k count newTargets newWritten) in
-          not (eqb (getD (mark (take count newTargets) (mark (targetsPart T place) (replicate settingCount 0))) x 0) 0) ≡ differs (lists here) new (uptoIn T k) x
+          not (eqb (getD (mark (take count newTargets) (mark (targetsAt T place) (replicate settingCount 0))) x 0) 0) ≡ differs (lists here) new (uptoIn T k) x
       live-differs =
           (λ i. not (eqb (getD (markedLive (old-is i) (new-is i) (new-settings i) (markedLive (old-is i) (new-is i) (targets-part i) (replicate settingCount 0))) x 0) 0))
           ∙ marked-live (uptoIn T k) (lists here .writes) (new .writes) x l
@@ -260,7 +225,7 @@ module _ (n : ℕ) (T : Tables) (e : lengthsFit n T ≡ true) (q : inForm n T �
           length values ≡ settingCount →
           differs (lists here) new (uptoIn T k) x ≡ true →
           let mark = markedValues (oldIn T k) (newIn T k count newTargets newWritten) in
-          getD (mark (take count newTargets) (mark (targetsPart T place) values)) x (pos 0) ≡ after (new .writes) (uptoIn T k) x
+          getD (mark (take count newTargets) (mark (targetsAt T place) values)) x (pos 0) ≡ after (new .writes) (uptoIn T k) x
       values-new values s t =
           (λ i. getD (markedValues (old-is i) (new-is i) (new-settings i) (markedValues (old-is i) (new-is i) (targets-part i) values)) x (pos 0))
           ∙ marked-values (uptoIn T k) (lists here .writes) (new .writes) x l values s t

@@ -6,7 +6,7 @@ use borrow.Author.Tests.{lt-ltb}
 use lib.ListN.{length}
 use Rattle.machine.specs.Settings.{settingCount, Environment}
 use Rattle.machine.specs.Run.{run}
-use Rattle.fresh.proofs.Model.{run-agree}
+use Rattle.machine.proofs.Lists.{run-agree}
 use Rattle.execution.specs.Raw.{onSettings}
 
 pub run-on-settings : (env : Environment) (bytes : List ℕ) → length bytes ≤ 256 → run (onSettings env) bytes ≡ run env bytes

@@ -10,8 +10,7 @@ use lib.Seq.{take-suc, take-all}
 use Rattle.machine.specs.Settings.{settingCount, Environment, valueIn, Entry, _orElse_, lookup, Holds, Distinct, after, carry}
 use Rattle.machine.specs.Run.{run}
 use Rattle.machine.proofs.Settings.{carry-after, length-carry}
-use Rattle.machine.proofs.Frame.{run-holds, run-same}
-use Rattle.machine.proofs.Lists.{run-bounded}
+use Rattle.machine.proofs.Lists.{run-agree}
 use Rattle.model.specs.History.{runLists, Change, change, program, withdrawn, History, allSettings}
 use Rattle.model.specs.Book.{freshAfter, freshEnd, bookedAs, bookOf}
 use Rattle.model.specs.Cabinet.{Cabinet, blank, historyOf}
@@ -45,16 +44,6 @@ runnable n T e q =
     }
 
 -- ---- a run on the list of an environment's values
-
-module _ (env env' : Environment) (agree : (s : ℕ) → s < settingCount → env' s ≡ env s) where
-  holds-agree : (l : List Entry) → Distinct l → Holds env l → Holds env' l
-  unfolding Distinct Holds
-  holds-agree [] d h = tt
-  holds-agree (e ∷ l) d h = (agree (e .setting) (d .0) ∙ h .0, holds-agree l (d .2) (h .1))
-
-  -- runs on environments that agree on every setting are the same
-  pub run-agree : (bytes : List ℕ) → length bytes ≤ 256 → run env' bytes ≡ run env bytes
-  run-agree bytes h = run-same env env' bytes (holds-agree _ (run-bounded env bytes h .0 .distinct) (run-holds env bytes))
 
 module _ (env : Environment) where
   -- a run on the list is the run on the environment

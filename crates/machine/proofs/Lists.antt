@@ -1,5 +1,5 @@
 -- The lists of a run: at most one entry for each instruction, each of a setting, no setting twice; a faulted run writes nothing.
-use mathlib.Core.Path.{_≡_, refl, sym, ap}
+use mathlib.Core.Path.{_≡_, refl, sym, ap, _∙_}
 use mathlib.Core.Bool.{true, false}
 use mathlib.Core.List.{List, [], _∷_, _++_}
 use Prim.Native.Nat.{ℕ, suc, zero, _+_, _≤_, _<_}
@@ -9,13 +9,13 @@ use lib.IntN.{ℤ, pos, negsuc, natAbs}
 use lib.ListN.{length, length-append}
 use Rattle.machine.specs.declared.Effect.{Effect}
 use Rattle.machine.specs.declared.Effect.the-variants.{Halt, Assign, Load, Store, Skip}
-use Rattle.machine.specs.Settings.{settingCount, Environment, Entry, entry, named, Distinct, Bounded}
+use Rattle.machine.specs.Settings.{settingCount, Environment, Entry, entry, named, Holds, Distinct, Bounded}
 use Rattle.machine.specs.Instruction.{Program, instructionCount, instructionsFrom, programOf}
 use Rattle.machine.specs.Form.{isBelow}
 use Rattle.machine.specs.Run.{effect, State, Next, stops, faults, goes, enter, load, store, perform, step, Outcome, continue, runFrom, start, runProgram, run}
 use Rattle.machine.proofs.Cases.{by-test, true-is-not-false}
 use Rattle.machine.proofs.Settings.{distinct-more}
-use Rattle.machine.proofs.Frame.{readsOf}
+use Rattle.machine.proofs.Frame.{readsOf, run-holds, run-same}
 
 -- both lists have at most k entries, distinct
 pub record Within (k : ℕ) (reads writes : List Entry) : Type 0 where
@@ -97,3 +97,15 @@ run-bounded env bytes h =
     let w = runFrom-within env 0 (programOf bytes) 0 0 start none in
     let n = length-instructions bytes 0 (instructionCount bytes) in
     (record { short = omega (arith, w .reads-short, n); distinct = w .reads-distinct }, record { short = omega (arith, w .writes-short, n); distinct = w .writes-distinct })
+
+-- ---- a run reads settings only
+
+module _ (env env' : Environment) (agree : (s : ℕ) → s < settingCount → env' s ≡ env s) where
+  holds-agree : (l : List Entry) → Distinct l → Holds env l → Holds env' l
+  unfolding Distinct Holds
+  holds-agree [] d h = tt
+  holds-agree (e ∷ l) d h = (agree (e .setting) (d .0) ∙ h .0, holds-agree l (d .2) (h .1))
+
+  -- runs on environments that agree on every setting are the same
+  pub run-agree : (bytes : List ℕ) → length bytes ≤ 256 → run env' bytes ≡ run env bytes
+  run-agree bytes h = run-same env env' bytes (holds-agree _ (run-bounded env bytes h .0 .distinct) (run-holds env bytes))

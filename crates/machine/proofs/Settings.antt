@@ -14,7 +14,8 @@ use Rattle.machine.proofs.Cases.{true-is-not-false}
 
 -- ---- carrying writes
 
-or-if-else : (x y : Option ℤ) (d : ℤ) → ((x orIf y) orElse d) ≡ (x orElse (y orElse d))
+-- a setting's value by the first of two lists that gives it one
+pub or-if-else : (x y : Option ℤ) (d : ℤ) → ((x orIf y) orElse d) ≡ (x orElse (y orElse d))
 or-if-else none y d = refl
 or-if-else (some v) y d = refl
 

@@ -4,13 +4,13 @@ use mathlib.Core.Bool.{Bool, true, cond}
 use mathlib.Core.List.{List, _∷_, _++_}
 use Prim.Native.Nat.{ℕ, suc, _<_}
 use lib.IntN.{ℤ}
-use lib.ListN.{length, getD, take, drop}
+use lib.ListN.{length, getD, set, take, drop}
 use Rattle.machine.specs.Settings.{settingCount, Environment, valueIn}
 use Rattle.machine.proofs.Cases.{by-test₂}
-use Rattle.model.specs.History.{Change, allSettings}
+use Rattle.model.specs.History.{Change, status, allSettings}
 use Rattle.model.specs.Walk.{markLive, liveAtEnd}
 use Rattle.model.specs.Cabinet.{blank, changesAt, historyOf, putAt, withHistory}
-use Rattle.model.specs.Tables.{Tables, heldCount, encode, decode}
+use Rattle.model.specs.Tables.{Tables, statusNumber, heldCount, encode, decode}
 use Rattle.model.specs.Form.{lengthsFit, inForm}
 use Rattle.model.specs.Sound.{Sound}
 use Rattle.model.proofs.Tables.{held-count}
@@ -19,7 +19,7 @@ use Rattle.model.proofs.Form.{decode-sound, encode-decode}
 use Rattle.marking.specs.Raw.{isLive, followed, Walkable}
 use Rattle.marking.proofs.Live.{statuses, Agree}
 use Rattle.marking.proofs.Cabinet.{markedIn, liveIn, walkable, live-past, marked-past}
-use Rattle.marking.proofs.Replace.{settledIn, Replaces, settled}
+use Rattle.marking.proofs.Replace.{settledIn, Replaces, settled, withStatus, Restates, restates}
 
 -- the view with the new value of each live setting
 pub view-follows : (live : List ℕ) (values view : List ℤ) (f : ℕ → Bool) (new : Environment) → Agree (isLive live) f → ((x : ℕ) → x < settingCount → f x ≡ true → valueIn values x ≡ new x) → followed live values view ≡ allSettings (λ x. cond (f x) (new x) (valueIn view x))
@@ -54,3 +54,9 @@ module _ (n : ℕ) (T : Tables) (e : lengthsFit n T ≡ true) (q : inForm n T �
     settled-tables h new r view =
         subst (λ (U : Tables). k < heldCount U → settledIn U k new live view ≡ encode n (withHistory (decode T) (take k (historyOf (decode T)) ++ new ∷ markLive f (drop (suc k) (historyOf (decode T)))) view)) laid
         (λ g. settled n (decode T) sound k (rw (held-count n (decode T)) at g) new f r live agree view) h
+
+  -- the change at a position with another status
+  pub restated-tables : (k : ℕ) → k < heldCount T → (new : Change) → Restates new (getD (historyOf (decode T)) k blank) → withStatus T (set (T .status) (getD (T .order) k 0) (statusNumber (status new))) ≡ encode n (withHistory (decode T) (take k (historyOf (decode T)) ++ new ∷ drop (suc k) (historyOf (decode T))) (decode T .view))
+  restated-tables k h new r =
+      subst (λ (U : Tables). k < heldCount U → withStatus U (set (U .status) (getD (U .order) k 0) (statusNumber (status new))) ≡ encode n (withHistory (decode T) (take k (historyOf (decode T)) ++ new ∷ drop (suc k) (historyOf (decode T))) (decode T .view))) laid
+      (λ g. restates n (decode T) sound k (rw (held-count n (decode T)) at g) new r) h

@@ -52,3 +52,8 @@ module _ (changes : List Change) where
   put-from [] (suc k) new = refl
   put-from (i ∷ places) (suc k) new =
       ap (putAt places (take k (changesAt changes places) ++ new)) (set-getD changes i blank) ∙ put-from places k new
+
+  -- every change put back where it is
+  pub put-back : (places : List ℕ) → putAt places (changesAt changes places) changes ≡ changes
+  put-back [] = refl
+  put-back (i ∷ places) = ap (putAt places (changesAt changes places)) (set-getD changes i blank) ∙ put-back places

@@ -1,6 +1,6 @@
 -- The tables of a sound cabinet with one change replaced and the later ones marked.
 use mathlib.Core.Path.{_≡_, refl, sym, ap, ap₂, _∙_}
-use mathlib.Core.Bool.{Bool}
+use mathlib.Core.Bool.{Bool, false}
 use mathlib.Core.List.{List, [], _∷_, _++_, map}
 use Prim.Native.Nat.{ℕ, suc, _+_, _*_, _/_, _<_, _≤_}
 use native.Mathlib.Numerals.{add-one}
@@ -13,14 +13,14 @@ use Rattle.model.specs.History.{Change, change, Lists, timestamp, program, stat
 use Rattle.model.specs.Figure.{markUpdate}
 use Rattle.model.specs.Walk.{close, markLive}
 use Rattle.model.specs.Cabinet.{Cabinet, blank, changesAt, historyOf, putAt, withHistory}
-use Rattle.model.specs.Tables.{statusNumber, flagNumber, pad, column, padded, blocks, settingsOf, valuesOf, Tables, encode}
+use Rattle.model.specs.Tables.{statusNumber, flagNumber, pad, column, padded, blocks, settingsOf, valuesOf, Tables, tables, encode}
 use Rattle.model.specs.Sound.{AllDistinct, Sound}
 use Rattle.model.proofs.Blocks.{column-set, Fits, blocks-set}
 use Rattle.model.proofs.Cabinet.{length-putAt}
 use Rattle.model.proofs.Order.{changesAt-get, below-at}
 use Rattle.model.proofs.Tables.{reads-fit, writes-fit, settings-fit, values-fit, order-at}
 use Rattle.marking.specs.Raw.{isLive, replaced, replacedZ}
-use Rattle.marking.proofs.Places.{distinct-drop, changesAt-other, changesAt-drop, put-from}
+use Rattle.marking.proofs.Places.{distinct-drop, changesAt-other, changesAt-drop, put-from, put-back}
 use Rattle.marking.proofs.Live.{statuses, Agree}
 use Rattle.marking.proofs.Cabinet.{markedIn, marked-past}
 
@@ -116,8 +116,8 @@ module _ (n : ℕ) (c : Cabinet) (s : Sound n c) (k : ℕ) (h : k < length (c .c
   positioned : drop k (c .order) ≡ place ∷ later
   positioned = drop-cons (c .order) k 0 (omega (arith, s .placed .counted)) ∙ ap (_∷ later) (sym (order-at n c k))
 
-  held : place < length (c .changes)
-  held = rw (order-at n c k) (below-at (length (c .changes)) (c .order) k (s .placed .below) (omega (arith, s .placed .counted)))
+  held-place : place < length (c .changes)
+  held-place = rw (order-at n c k) (below-at (length (c .changes)) (c .order) k (s .placed .below) (omega (arith, s .placed .counted)))
 
   distinct : AllDistinct (place ∷ later)
   distinct = rw positioned at (distinct-drop (c .order) k (s .placed .distinct))
@@ -136,7 +136,7 @@ module _ (n : ℕ) (c : Cabinet) (s : Sound n c) (k : ℕ) (h : k < length (c .c
   -- the status column; the others are those of the change replaced
   statuses-after : (live : List ℕ) → Agree (isLive live) f → markedIn (encode n c) (k + 1) live (set (statuses n (c .changes)) place (statusNumber (status new))) ≡ statuses n all
   statuses-after live agree =
-      ap₂ (λ (m : ℕ) (l : List ℕ). markedIn (encode n c) m live l) (add-one k) (sym (column-set n 0 (λ d. statusNumber (status d)) (c .changes) place new held))
+      ap₂ (λ (m : ℕ) (l : List ℕ). markedIn (encode n c) m live l) (add-one k) (sym (column-set n 0 (λ d. statusNumber (status d)) (c .changes) place new held-place))
       ∙ marked-past n c s live f agree (suc k) now (length-set (c .changes) place new) as-before
 
   -- a field that does not tell the status
@@ -146,17 +146,17 @@ module _ (n : ℕ) (c : Cabinet) (s : Sound n c) (k : ℕ) (h : k < length (c .c
   -- the counts, the settings and the values of the lists
   module _ (field : Lists → List Entry) (fit : Fits 32 (λ d. field (lists d)) (c .changes)) (short : length (field (lists new)) ≤ 32) where
     counts-after : column n 0 (λ d. length (field (lists d))) all ≡ set (column n 0 (λ d. length (field (lists d))) (c .changes)) place (length (field (lists new)))
-    counts-after = ap (pad n 0) (map-kept (λ t p w l. length (field l))) ∙ column-set n 0 (λ d. length (field (lists d))) (c .changes) place new held
+    counts-after = ap (pad n 0) (map-kept (λ t p w l. length (field l))) ∙ column-set n 0 (λ d. length (field (lists d))) (c .changes) place new held-place
 
     settings-after : blocks n 32 0 (λ d. settingsOf (field (lists d))) all ≡ replaced place (settingsOf (field (lists new))) (blocks n 32 0 (λ d. settingsOf (field (lists d))) (c .changes))
     settings-after =
         blocks-same n 32 0 (λ d. settingsOf (field (lists d))) all now (map-kept (λ t p w l. settingsOf (field l)))
-        ∙ sym (settings-replaced n (λ d. field (lists d)) (c .changes) fit place held new short)
+        ∙ sym (settings-replaced n (λ d. field (lists d)) (c .changes) fit place held-place new short)
 
     values-after : blocks n 32 (pos 0) (λ d. valuesOf (field (lists d))) all ≡ replacedZ place (valuesOf (field (lists new))) (blocks n 32 (pos 0) (λ d. valuesOf (field (lists d))) (c .changes))
     values-after =
         blocks-same n 32 (pos 0) (λ d. valuesOf (field (lists d))) all now (map-kept (λ t p w l. valuesOf (field l)))
-        ∙ sym (values-replaced n (λ d. field (lists d)) (c .changes) fit place held new short)
+        ∙ sym (values-replaced n (λ d. field (lists d)) (c .changes) fit place held-place new short)
 
   module _ (r : Replaces new (getD (historyOf c) k blank)) where
     -- a field that does not tell the lists either
@@ -204,3 +204,53 @@ module _ (n : ℕ) (c : Cabinet) (s : Sound n c) (k : ℕ) (h : k < length (c .c
       -- the tables of the cabinet with that history
       pub settled : settledIn (encode n c) k new live view ≡ encode n (withHistory c (take k (historyOf c) ++ new ∷ markLive f (drop (suc k) (historyOf c))) view)
       settled = sym (ap (λ (changes : List Change). encode n (record { changes = changes; order = c .order; view = view })) together ∙ laid-out)
+
+-- ---- another status, and nothing else
+
+abbrev pub withStatus : Tables → List ℕ → Tables
+withStatus T status = tables (T .held) (T .timestamps) (T .order) status (T .withdrawn) (T .lengths) (T .programs) (T .reads) (T .writes) (T .sources) (T .seen) (T .targets) (T .written) (T .view)
+
+-- a change in the place of another of which only the status may differ
+pub record Restates (new old : Change) : Type 0 where
+  pub stamped : timestamp new ≡ timestamp old
+  pub programmed : program new ≡ program old
+  pub flagged : withdrawn new ≡ withdrawn old
+  pub listed : lists new ≡ lists old
+
+module _ (n : ℕ) (c : Cabinet) (s : Sound n c) (k : ℕ) (h : k < length (c .changes)) (new : Change) (r : Restates new (getD (historyOf c) k blank)) where
+  abbrev place-restated : ℕ
+  place-restated = getD (encode n c .order) k 0
+
+  abbrev restated : List Change
+  restated = set (c .changes) place-restated new
+
+  all-restated : putAt (c .order) (take k (historyOf c) ++ new ∷ drop (suc k) (historyOf c)) (c .changes) ≡ restated
+  all-restated =
+      put-from (c .changes) (c .order) k (new ∷ drop (suc k) (historyOf c))
+      ∙ ap₂ (λ (places : List ℕ) (later : History). putAt places (new ∷ later) (c .changes)) (positioned n c s k h new (λ x. false)) (sym (as-before n c s k h new (λ x. false)))
+      ∙ put-back restated (drop (suc k) (c .order))
+
+  map-restated : {B : Type 0} (g : ℕ → List ℕ → Bool → Lists → B) → map (fieldOf g) restated ≡ map (fieldOf g) (c .changes)
+  map-restated g = map-set-same (fieldOf g) (c .changes) _ new blank ((rw (r .stamped, r .programmed, r .flagged, r .listed)) ∙ ap (fieldOf g) (old n c s k h new (λ x. false)))
+
+  laid-restated : encode n (record { changes = restated; order = c .order; view = c .view }) ≡ withStatus (encode n c) (set (encode n c .status) place-restated (statusNumber (status new)))
+  unfolding encode
+  laid-restated =
+      let held = ap (_∷ []) (length-set (c .changes) place-restated new) in
+      let timestamps = ap (pad n 0) (map-restated (λ t p w l. t)) in
+      let status = column-set n 0 (λ d. statusNumber (status d)) (c .changes) place-restated new (held-place n c s k h new (λ x. false)) in
+      let withdrawn = ap (pad n 0) (map-restated (λ t p w l. flagNumber w)) in
+      let lengths = ap (pad n 0) (map-restated (λ t p w l. length p / 8)) in
+      let programs = blocks-same n 256 0 program restated (c .changes) (map-restated (λ t p w l. p)) in
+      let reads = ap (pad n 0) (map-restated (λ t p w l. length (l .reads))) in
+      let writes = ap (pad n 0) (map-restated (λ t p w l. length (l .writes))) in
+      let sources = blocks-same n 32 0 (λ d. settingsOf (lists d .reads)) restated (c .changes) (map-restated (λ t p w l. settingsOf (l .reads))) in
+      let seen = blocks-same n 32 (pos 0) (λ d. valuesOf (lists d .reads)) restated (c .changes) (map-restated (λ t p w l. valuesOf (l .reads))) in
+      let targets = blocks-same n 32 0 (λ d. settingsOf (lists d .writes)) restated (c .changes) (map-restated (λ t p w l. settingsOf (l .writes))) in
+      let written = blocks-same n 32 (pos 0) (λ d. valuesOf (lists d .writes)) restated (c .changes) (map-restated (λ t p w l. valuesOf (l .writes))) in
+      λ j.
+      tables (held j) (timestamps j) (encode n c .order) (status j) (withdrawn j) (lengths j) (programs j) (reads j) (writes j) (sources j) (seen j) (targets j) (written j) (c .view)
+
+  -- the tables of the cabinet with that history
+  pub restates : withStatus (encode n c) (set (encode n c .status) place-restated (statusNumber (status new))) ≡ encode n (withHistory c (take k (historyOf c) ++ new ∷ drop (suc k) (historyOf c)) (c .view))
+  restates = sym (ap (λ (changes : List Change). encode n (record { changes = changes; order = c .order; view = c .view })) all-restated ∙ laid-restated)

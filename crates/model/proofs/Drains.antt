@@ -1,8 +1,8 @@
 -- A drain, on a history by rising timestamp: by rounds or by walks it is the same, it ends with every change Valid, and its turns go by rising timestamp.
-use mathlib.Core.Path.{_≡_, refl, ap, _∙_}
+use mathlib.Core.Path.{_≡_, refl, sym, ap, subst, _∙_}
 use mathlib.Core.Bool.{Bool, true, false}
 use mathlib.Core.List.{List, [], _∷_}
-use mathlib.Core.Option.{none, some}
+use mathlib.Core.Option.{Option, none, some}
 use Prim.Native.Nat.{ℕ, zero, suc, _+_, _<_, _≤_}
 use native.Mathlib.Omega.{arith}
 use lib.IntN.{ℤ}
@@ -14,7 +14,7 @@ use Rattle.model.specs.Drain.{Drain, drainNone, drainMore, drainStep, dr
 use Rattle.model.specs.Walk.{close, markLive, pass, retry, walk, walkFor}
 use Rattle.model.specs.Sound.{Rising}
 use Rattle.model.proofs.Round.{WaitsAbove, rising-waits, round-walk}
-use Rattle.model.proofs.Keeps.{StepKeeps, keeps-length, keeps-rising, round-keeps, drain-keeps}
+use Rattle.model.proofs.Keeps.{Keeps, StepKeeps, keeps-length, keeps-rising, round-keeps, drain-keeps}
 
 -- a drain by rounds is a drain by walks
 pub drain-walk : (env : Environment) (h : History) (view : List ℤ) (b : ℕ) (k : ℕ) → Rising b h → drainFor k env h view ≡ walkFor k env h view
@@ -42,6 +42,12 @@ validBefore [] = 0
 validBefore (change t p New w l ∷ h) = 0
 validBefore (change t p Invalid w l ∷ h) = 0
 validBefore (change t p Valid w l ∷ h) = suc (validBefore h)
+
+valid-within : (h : History) → validBefore h ≤ length h
+valid-within [] = omega arith
+valid-within (change t p New w l ∷ h) = omega arith
+valid-within (change t p Invalid w l ∷ h) = omega arith
+valid-within (change t p Valid w l ∷ h) = let rest = valid-within h in omega arith
 
 -- the turn is of the lowest change that waits, and of those that wait after it none is lower
 record Ordered (h h' : History) (e : Event) : Type 0 where
@@ -136,3 +142,39 @@ drain-ends env h view r =
       rising = keeps-rising 0 (drain-keeps env h view) r;
       rising-events = f .rising-events;
     }
+
+-- ---- a drain by its first turn
+
+-- one turn more than enough alters nothing
+drain-enough : (k : ℕ) (env : Environment) (h : History) (view : List ℤ) → Rising 0 h → length h ≤ k + validBefore h → drainFor (suc k) env h view ≡ drainFor k env h view
+unfolding drainFor round
+drain-enough zero env h view r q = ap (λ (waiting : Option Change). drainStep (drainFor 0 env) (drainNone h view) (roundAt env h view waiting)) (none-waits h (enough-valid h (omega arith)))
+drain-enough (suc k) env h view r q =
+    go (drain-enough k env) (round env h view) (round-keeps env h view)
+    (rw (round-walk env h view 0 r) (walk-ordered env view 0 h r))
+  where
+    go : ((h' : History) (view' : List ℤ) → Rising 0 h' → length h' ≤ k + validBefore h' → drainFor (suc k) env h' view' ≡ drainFor k env h' view') → (s : Step) → StepKeeps h view s → OrderedStep h s → drainStep (drainFor (suc k) env) (drainNone h view) s ≡ drainStep (drainFor k env) (drainNone h view) s
+    go ih idle n m = refl
+    go ih (turned h' view' e) n m = ap (drainMore e) (ih h' view' (keeps-rising 0 n r) (omega (arith, keeps-length n)))
+
+module _ (env : Environment) (h : History) (view : List ℤ) where
+  pub drain-idle : round env h view ≡ idle → drainHistory env h view ≡ drainNone h view
+  unfolding drainHistory drainFor
+  drain-idle q = go (length h)
+    where
+      go : (k : ℕ) → drainFor k env h view ≡ drainNone h view
+      go zero = refl
+      go (suc k) = ap (drainStep (drainFor k env) (drainNone h view)) q
+
+  -- its first turn, and the drain of what that leaves
+  pub drain-next : {h' : History} {view' : List ℤ} {e : Event} → Rising 0 h → round env h view ≡ turned h' view' e → drainHistory env h view ≡ drainMore e (drainHistory env h' view')
+  unfolding drainHistory drainFor
+  drain-next {h'} {view'} {e} r q =
+      go (length h) (subst (StepKeeps h view) q (round-keeps env h view)) (subst (OrderedStep h) (sym (round-walk env h view 0 r) ∙ q) (walk-ordered env view 0 h r)) (omega arith)
+    where
+      go : (k : ℕ) → Keeps h view h' view' → Ordered h h' e → length h ≡ k → drainFor k env h view ≡ drainMore e (drainFor (length h') env h' view')
+      go zero n m l = absurd (omega (arith, m .more-valid, valid-within h', keeps-length n))
+      go (suc k) n m l =
+          let same : length h' ≡ suc k = keeps-length n ∙ l in
+          ap (drainStep (drainFor k env) (drainNone h view)) q
+          ∙ ap (drainMore e) (sym (drain-enough k env h' view' (keeps-rising 0 n r) (omega (arith, m .more-valid, same))) ∙ ap (λ (m : ℕ). drainFor m env h' view') (sym same))

@@ -27,7 +27,7 @@ use Rattle.search.proofs.Model.{rankIn, positionIn, placed-writes, place-of, po
 use Rattle.fresh.specs.Raw.{heldRun}
 use Rattle.fresh.proofs.Model.{held-fresh}
 use Rattle.execution.specs.Raw.{valuesBelow}
-use Rattle.queries.proofs.Refusals.{faultOf, Faultless, faulty}
+use Rattle.tables.proofs.Faults.{faultOf, Faultless, faulty}
 
 -- ---- current value
 

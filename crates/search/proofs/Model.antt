@@ -11,6 +11,7 @@ use lib.IntN.{ℤ}
 use lib.ListN.{length, getD, take, drop, drop-of-length-le}
 use Rattle.machine.specs.Settings.{Environment, Entry, _orIf_, _orElse_, lookup}
 use Rattle.machine.proofs.Cases.{by-test, true-is-not-false, both}
+use Rattle.machine.proofs.Settings.{or-if-else}
 use Rattle.model.specs.History.{Change, timestamp, lists, History, afterAll, asOf}
 use Rattle.model.specs.Cabinet.{blank, historyOf, find}
 use Rattle.model.specs.Tables.{Tables, heldCount, writesAt, encode, decode}
@@ -29,10 +30,6 @@ short-writes : (changes : List Change) (i : ℕ) → AllSound changes → length
 short-writes [] i a = omega arith
 short-writes (c ∷ changes) zero a = a .0 .writes .short
 short-writes (c ∷ changes) (suc i) a = short-writes changes i (a .1)
-
-or-if-else : (x y : Option ℤ) (d : ℤ) → (x orElse (y orElse d)) ≡ ((x orIf y) orElse d)
-or-if-else none y d = refl
-or-if-else (some v) y d = refl
 
 -- ---- the searches in some tables
 
@@ -170,7 +167,7 @@ module _ (n : ℕ) (T : Tables) (e : lengthsFit n T ≡ true) (q : inForm n T �
     after-below (suc k) h =
         ap (λ (x : Environment). x s) (after-next (historyIn T) k env (omega (arith, history-length)))
         ∙ ap (λ (v : ℤ). lookup (lists (getD (historyIn T) k blank) .writes) s orElse v) (after-below k (omega arith))
-        ∙ or-if-else (lookup (lists (getD (historyIn T) k blank) .writes) s) (previousIn T s k) (env s)
+        ∙ sym (or-if-else (lookup (lists (getD (historyIn T) k blank) .writes) s) (previousIn T s k) (env s))
         ∙ ap (λ (w : List Entry). (lookup w s orIf previousIn T s k) orElse env s) (sym (wrote k h))
 
     -- its value as of a timestamp

@@ -1,4 +1,6 @@
-//! Random programs and values, each determined by a seed.
+//! Random programs, values and tables, each determined by a seed.
+
+pub mod tables;
 
 use outside::program::{op, Instruction, INSTRUCTION_BYTES, MAX_INSTRUCTIONS, REGISTERS, SETTINGS};
 use std::env;
@@ -100,6 +102,12 @@ impl Style {
         settings: 64,
     };
 
+    /// Reads and writes of settings by number, and sums: most runs go through.
+    pub const DIRECT: Self = Self {
+        operations: &[1, 1, 3, 4, 11, 11, 11, 13, 13],
+        settings: 400,
+    };
+
     /// Reads alone.
     pub const READS: Self = Self {
         operations: &[op::READ],
@@ -119,7 +127,8 @@ impl Style {
     };
 }
 
-/// The settings that a program names: an arithmetic sequence modulo 1,024.
+/// The settings that a program names, or that the programs and lists of tables name: an arithmetic
+/// sequence modulo 1,024.
 struct Settings {
     first: usize,
     step: usize,
@@ -144,6 +153,16 @@ impl Settings {
 /// A well formed program of `count` instructions.
 pub fn program(random: &mut Random, style: &Style, count: usize) -> Vec<u8> {
     let settings = Settings::new(random, style.settings);
+    program_naming(random, style, &settings, count)
+}
+
+/// A well formed program of `count` instructions that names these settings, about.
+fn program_naming(
+    random: &mut Random,
+    style: &Style,
+    settings: &Settings,
+    count: usize,
+) -> Vec<u8> {
     let registers = random.pick(&[2, 4, REGISTERS]);
     // Half of the programs first set the registers, where the style has constants.
     let constants = match style.operations.contains(&op::CONSTANT) {
@@ -156,13 +175,13 @@ pub fn program(random: &mut Random, style: &Style, count: usize) -> Vec<u8> {
             Instruction {
                 op: op::CONSTANT,
                 a: place as u8,
-                n: number(random, &settings),
+                n: number(random, settings),
                 ..Instruction::default()
             }
         } else {
             let op = random.pick(style.operations);
             let following = count - place - 1;
-            instruction(random, op, registers, &settings, following)
+            instruction(random, op, registers, settings, following)
         };
         program.extend(instruction.to_bytes());
     }

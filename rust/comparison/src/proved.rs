@@ -1,7 +1,9 @@
-//! The boundary to the proved static library: declarations of its functions, and safe forms of
+//! The boundary to the proved static libraries: declarations of their functions, and safe forms of
 //! them.
 //!
-//! Nothing checks these declarations against the library's source.
+//! Nothing checks these declarations against the libraries' source.
+
+pub mod calls;
 
 use outside::program::{Access, Fault, MAX_INSTRUCTIONS, SETTINGS};
 use std::fmt;

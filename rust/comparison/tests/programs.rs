@@ -1,11 +1,11 @@
 //! The proved interpreter against the outside implementation, on programs.
 
+use comparison::reached::Reached;
 use comparison::{agree, generate, proved};
 use generate::{Random, Style, EXTREMES};
 use outside::program::{
     self, op, Fault, Instruction, Malformed, Outcome, INSTRUCTION_BYTES, MAX_INSTRUCTIONS, SETTINGS,
 };
-use std::collections::BTreeMap;
 
 const PROGRAMS: usize = 300_000;
 
@@ -100,68 +100,47 @@ enum Event {
     FaultedAtPlace31,
 }
 
-#[derive(Default)]
-struct Reached(BTreeMap<Event, usize>);
-
-impl Reached {
-    fn count(&mut self, event: Event) {
-        *self.0.entry(event).or_default() += 1;
-    }
-
-    fn count_if(&mut self, condition: bool, event: Event) {
-        if condition {
-            self.count(event);
-        }
-    }
-
-    /// Counts what the last run shows.
-    fn count_run(&mut self, program: &[u8], runs: &Runs) {
-        let (instructions, _) = program.as_chunks();
-        let at = |place: usize| Instruction::from_bytes(instructions[place]);
-        let mut reads_executed = 0;
-        for (index, &place) in runs.places.iter().enumerate() {
-            let Instruction { op, n, .. } = at(place);
-            self.count(Event::Executed(op));
-            if matches!(op, op::READ | op::READ_INDEXED) {
-                reads_executed += 1;
-            }
-            if matches!(op, op::SKIP_IF_NEGATIVE..=op::SKIP) && n > 0 {
-                self.count(match runs.places.get(index + 1) {
-                    Some(&next) if next == place + 1 => Event::GoesOn(op),
-                    Some(_) => Event::Skips(op),
-                    None => Event::SkipsToEnd(op),
-                });
-            }
-        }
-
-        let (reads, writes) = (runs.outside.reads(), runs.outside.writes());
-        let read = |setting| reads.iter().any(|read| read.setting == setting);
-        self.count_if(reads.len() == MAX_INSTRUCTIONS, Event::Reads32);
-        self.count_if(writes.len() == MAX_INSTRUCTIONS, Event::Writes32);
-        let Some((fault, place)) = runs.outside.fault() else {
-            self.count(Event::Completed);
-            self.count_if(reads_executed > reads.len(), Event::ReadAgain);
-            let then_written = writes.iter().any(|write| read(write.setting));
-            self.count_if(then_written, Event::ReadThenWritten);
-            return;
-        };
+/// Counts what the last run shows.
+fn count_run(reached: &mut Reached<Event>, program: &[u8], runs: &Runs) {
+    let (instructions, _) = program.as_chunks();
+    let at = |place: usize| Instruction::from_bytes(instructions[place]);
+    let mut reads_executed = 0;
+    for (index, &place) in runs.places.iter().enumerate() {
         let Instruction { op, n, .. } = at(place);
-        self.count(match fault {
-            Fault::NoSuchSetting => Event::NoSuchSettingBy(op),
-            Fault::ReadOfWritten => Event::ReadOfWrittenBy(op),
-            Fault::WrittenTwice => Event::WrittenTwiceBy(op),
-        });
-        let read_before = fault == Fault::ReadOfWritten && op == op::READ && read(n as u16);
-        self.count_if(read_before, Event::ReadOfWrittenReadBefore);
-        self.count_if(!reads.is_empty(), Event::FaultedAfterReads);
-        self.count_if(place == MAX_INSTRUCTIONS - 1, Event::FaultedAtPlace31);
+        reached.count(Event::Executed(op));
+        if matches!(op, op::READ | op::READ_INDEXED) {
+            reads_executed += 1;
+        }
+        if matches!(op, op::SKIP_IF_NEGATIVE..=op::SKIP) && n > 0 {
+            reached.count(match runs.places.get(index + 1) {
+                Some(&next) if next == place + 1 => Event::GoesOn(op),
+                Some(_) => Event::Skips(op),
+                None => Event::SkipsToEnd(op),
+            });
+        }
     }
 
-    #[track_caller]
-    fn assert_at_least(&self, least: usize, event: Event) {
-        let count = self.0.get(&event).copied().unwrap_or(0);
-        assert!(count >= least, "{event:?} {count} times, not {least}");
-    }
+    let (reads, writes) = (runs.outside.reads(), runs.outside.writes());
+    let read = |setting| reads.iter().any(|read| read.setting == setting);
+    reached.count_if(reads.len() == MAX_INSTRUCTIONS, Event::Reads32);
+    reached.count_if(writes.len() == MAX_INSTRUCTIONS, Event::Writes32);
+    let Some((fault, place)) = runs.outside.fault() else {
+        reached.count(Event::Completed);
+        reached.count_if(reads_executed > reads.len(), Event::ReadAgain);
+        let then_written = writes.iter().any(|write| read(write.setting));
+        reached.count_if(then_written, Event::ReadThenWritten);
+        return;
+    };
+    let Instruction { op, n, .. } = at(place);
+    reached.count(match fault {
+        Fault::NoSuchSetting => Event::NoSuchSettingBy(op),
+        Fault::ReadOfWritten => Event::ReadOfWrittenBy(op),
+        Fault::WrittenTwice => Event::WrittenTwiceBy(op),
+    });
+    let read_before = fault == Fault::ReadOfWritten && op == op::READ && read(n as u16);
+    reached.count_if(read_before, Event::ReadOfWrittenReadBefore);
+    reached.count_if(!reads.is_empty(), Event::FaultedAfterReads);
+    reached.count_if(place == MAX_INSTRUCTIONS - 1, Event::FaultedAtPlace31);
 }
 
 #[test]
@@ -212,13 +191,11 @@ fn random_programs_have_the_same_form_and_the_same_outcome() {
         });
         if refusal == 0 {
             runs.compare(&program, &values);
-            reached.count_run(&program, &runs);
+            count_run(&mut reached, &program, &runs);
         }
     }
 
-    for (event, count) in &reached.0 {
-        println!("{count:8} {event:?}");
-    }
+    reached.print();
     reached.assert_at_least(PROGRAMS / 2, Event::Accepted);
     reached.assert_at_least(PROGRAMS / 10, Event::Completed);
     reached.assert_at_least(PROGRAMS / 100, Event::AcceptedThoughDamaged);

@@ -6,7 +6,7 @@ use mir.Facts.{toZ-ofZ}
 use Rattle.model.specs.declared.Value.the-variants as value
 use Rattle.model.specs.Tables.{Tables, tables}
 use Rattle.model.proofs.Tests.{lengths-of}
-use Rattle.queries.proofs.Refusals.{Faultless, faultless}
+use Rattle.tables.proofs.Faults.{Faultless, faultless}
 use Rattle.queries.proofs.Outcomes.{current-fault, current-no-setting, current-is}
 use Rattle.queries.proofs.current_value.Statement.{statement}
 use Rattle.queries.proofs.current_value.Tie as tie

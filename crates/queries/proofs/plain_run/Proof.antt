@@ -8,7 +8,7 @@ use Rattle.model.specs.Tables.{Tables, tables, heldCount}
 use Rattle.model.proofs.Tests.{lengths-of}
 use Rattle.fresh.specs.Raw.{heldRun}
 use Rattle.fresh.proofs.Model.{runnable}
-use Rattle.queries.proofs.Refusals.{Faultless, faultless}
+use Rattle.tables.proofs.Faults.{Faultless, faultless}
 use Rattle.queries.proofs.Outcomes.{plain-wrong-length, plain-fault, plain-done}
 use Rattle.queries.proofs.plain_run.Statement.{statement}
 use Rattle.queries.proofs.plain_run.Tie as tie

@@ -11,7 +11,7 @@ use Rattle.model.specs.Tables.{Tables, tables}
 use Rattle.model.proofs.Tests.{lengths-of}
 use Rattle.search.proofs.Answers.{found-at, found-nothing}
 use Rattle.search.proofs.Model.{positionIn, placed-stamps}
-use Rattle.queries.proofs.Refusals.{Faultless, faultless}
+use Rattle.tables.proofs.Faults.{Faultless, faultless}
 use Rattle.queries.proofs.Outcomes.{not-timestamp, is-timestamp, Within, position-within, standing-fault, standing-no-timestamp, standing-not-held, standing-held}
 use Rattle.queries.proofs.standing.Statement.{statement}
 use Rattle.queries.proofs.standing.Tie as tie

@@ -7,7 +7,7 @@ use Rattle.model.specs.declared.Value.the-variants as value
 use Rattle.model.specs.Tables.{Tables, tables}
 use Rattle.model.proofs.Tests.{lengths-of}
 use Rattle.search.proofs.Model.{placed-stamps, listed}
-use Rattle.queries.proofs.Refusals.{Faultless, faultless}
+use Rattle.tables.proofs.Faults.{Faultless, faultless}
 use Rattle.queries.proofs.Outcomes.{as-of-fault, as-of-no-time, as-of-no-setting, as-of-placed, as-of-is}
 use Rattle.queries.proofs.value_as_of.Statement.{statement}
 use Rattle.queries.proofs.value_as_of.Tie as tie

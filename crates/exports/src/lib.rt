@@ -1,0 +1,254 @@
+// The calls for programs in other languages, as a static library. Each answer is one number.
+use model::Answer;
+use model::Standing;
+use model::Value;
+use queries::current_value;
+use queries::plain_run;
+use queries::standing;
+use queries::value_as_of;
+use setup::set_up;
+ghost use mathlib.Core.Path.{_≡_};
+ghost use Rattle.model.specs.Tables.{tables};
+ghost use Rattle.model.specs.Calls.{answerNumber, setUp, currentValue, valueAsOf, standing, plainRun};
+ghost use Rattle.exports.specs.Numbers.{valueNumber, standingNumber};
+
+// 0 done, 255 held already, else the refusal.
+fn answer_number(answer: Answer) -> u8
+    ensures { λ r. ⌜ r ≡ answerNumber answer ⌝ }
+{
+    match answer {
+        Answer::Done => 0,
+        Answer::Held => 255,
+        Answer::Refused(refusal) => refusal,
+    }
+}
+
+// A value, or 4,294,967,296 + the refusal.
+fn value_number(value: Value) -> i64
+    ensures { λ r. ⌜ r ≡ valueNumber value ⌝ }
+{
+    match value {
+        Value::Is(v) => v as i64,
+        Value::Refused(refusal) => 4294967296 + refusal as i64,
+    }
+}
+
+// Status + 256 × flag, or 65,536 + the refusal.
+fn standing_number(standing: Standing) -> u32
+    ensures { λ r. ⌜ r ≡ standingNumber standing ⌝ }
+{
+    match standing {
+        Standing::At(status, flag) => status as u32 + flag as u32 * 256,
+        Standing::Refused(refusal) => 65536 + refusal as u32,
+    }
+}
+
+// Set up: the number of its answer.
+#[no_mangle]
+pub extern "C" fn tolbezun_set_up(
+    n: usize,
+    held: &mut [u16],
+    timestamps: &mut [u64],
+    order: &mut [u16],
+    status: &mut [u16],
+    withdrawn: &mut [u16],
+    lengths: &mut [u16],
+    programs: &mut [u8],
+    reads: &mut [u16],
+    writes: &mut [u16],
+    sources: &mut [u16],
+    seen: &mut [i32],
+    targets: &mut [u16],
+    written: &mut [i32],
+    view: &mut [i32],
+) -> u8
+    ensures { λ r. ⌜ (let reply = setUp n (tables (now (held .entry)) (now (timestamps .entry)) (now (order .entry)) (now (status .entry)) (now (withdrawn .entry)) (now (lengths .entry)) (now (programs .entry)) (now (reads .entry)) (now (writes .entry)) (now (sources .entry)) (now (seen .entry)) (now (targets .entry)) (now (written .entry)) (now (view .entry))) in (r ≡ answerNumber (reply .answer)) × (tables (now (held .exit)) (now (timestamps .exit)) (now (order .exit)) (now (status .exit)) (now (withdrawn .exit)) (now (lengths .exit)) (now (programs .exit)) (now (reads .exit)) (now (writes .exit)) (now (sources .exit)) (now (seen .exit)) (now (targets .exit)) (now (written .exit)) (now (view .exit)) ≡ reply .tables)) ⌝ }
+{
+    answer_number(set_up(
+        n,
+        held,
+        timestamps,
+        order,
+        status,
+        withdrawn,
+        lengths,
+        programs,
+        reads,
+        writes,
+        sources,
+        seen,
+        targets,
+        written,
+        view,
+    ))
+}
+
+// The current value of a setting, or its refusal, as a number.
+#[no_mangle]
+pub extern "C" fn tolbezun_current_value(
+    n: usize,
+    held: &[u16],
+    timestamps: &[u64],
+    order: &[u16],
+    status: &[u16],
+    withdrawn: &[u16],
+    lengths: &[u16],
+    programs: &[u8],
+    reads: &[u16],
+    writes: &[u16],
+    sources: &[u16],
+    seen: &[i32],
+    targets: &[u16],
+    written: &[i32],
+    view: &[i32],
+    setting: usize,
+) -> i64
+    ensures { λ r. ⌜ r ≡ valueNumber (currentValue n (tables (now (held .entry)) (now (timestamps .entry)) (now (order .entry)) (now (status .entry)) (now (withdrawn .entry)) (now (lengths .entry)) (now (programs .entry)) (now (reads .entry)) (now (writes .entry)) (now (sources .entry)) (now (seen .entry)) (now (targets .entry)) (now (written .entry)) (now (view .entry))) setting) ⌝ }
+{
+    value_number(current_value(
+        n,
+        held,
+        timestamps,
+        order,
+        status,
+        withdrawn,
+        lengths,
+        programs,
+        reads,
+        writes,
+        sources,
+        seen,
+        targets,
+        written,
+        view,
+        setting,
+    ))
+}
+
+// The value of a setting as of a timestamp, or its refusal, as a number.
+#[no_mangle]
+pub extern "C" fn tolbezun_value_as_of(
+    n: usize,
+    held: &[u16],
+    timestamps: &[u64],
+    order: &[u16],
+    status: &[u16],
+    withdrawn: &[u16],
+    lengths: &[u16],
+    programs: &[u8],
+    reads: &[u16],
+    writes: &[u16],
+    sources: &[u16],
+    seen: &[i32],
+    targets: &[u16],
+    written: &[i32],
+    view: &[i32],
+    timestamp: u64,
+    setting: usize,
+) -> i64
+    ensures { λ r. ⌜ r ≡ valueNumber (valueAsOf n (tables (now (held .entry)) (now (timestamps .entry)) (now (order .entry)) (now (status .entry)) (now (withdrawn .entry)) (now (lengths .entry)) (now (programs .entry)) (now (reads .entry)) (now (writes .entry)) (now (sources .entry)) (now (seen .entry)) (now (targets .entry)) (now (written .entry)) (now (view .entry))) timestamp setting) ⌝ }
+{
+    value_number(value_as_of(
+        n,
+        held,
+        timestamps,
+        order,
+        status,
+        withdrawn,
+        lengths,
+        programs,
+        reads,
+        writes,
+        sources,
+        seen,
+        targets,
+        written,
+        view,
+        timestamp,
+        setting,
+    ))
+}
+
+// The standing of a timestamp, or its refusal, as a number.
+#[no_mangle]
+pub extern "C" fn tolbezun_standing(
+    n: usize,
+    held: &[u16],
+    timestamps: &[u64],
+    order: &[u16],
+    status: &[u16],
+    withdrawn: &[u16],
+    lengths: &[u16],
+    programs: &[u8],
+    reads: &[u16],
+    writes: &[u16],
+    sources: &[u16],
+    seen: &[i32],
+    targets: &[u16],
+    written: &[i32],
+    view: &[i32],
+    timestamp: u64,
+) -> u32
+    ensures { λ r. ⌜ r ≡ standingNumber (standing n (tables (now (held .entry)) (now (timestamps .entry)) (now (order .entry)) (now (status .entry)) (now (withdrawn .entry)) (now (lengths .entry)) (now (programs .entry)) (now (reads .entry)) (now (writes .entry)) (now (sources .entry)) (now (seen .entry)) (now (targets .entry)) (now (written .entry)) (now (view .entry))) timestamp) ⌝ }
+{
+    standing_number(standing(
+        n,
+        held,
+        timestamps,
+        order,
+        status,
+        withdrawn,
+        lengths,
+        programs,
+        reads,
+        writes,
+        sources,
+        seen,
+        targets,
+        written,
+        view,
+        timestamp,
+    ))
+}
+
+// The plain run: the number of its answer.
+#[no_mangle]
+pub extern "C" fn tolbezun_plain_run(
+    n: usize,
+    held: &[u16],
+    timestamps: &[u64],
+    order: &[u16],
+    status: &[u16],
+    withdrawn: &[u16],
+    lengths: &[u16],
+    programs: &[u8],
+    reads: &[u16],
+    writes: &[u16],
+    sources: &[u16],
+    seen: &[i32],
+    targets: &[u16],
+    written: &[i32],
+    view: &[i32],
+    settings: &mut [i32],
+) -> u8
+    ensures { λ r. ⌜ (let reply = plainRun n (tables (now (held .entry)) (now (timestamps .entry)) (now (order .entry)) (now (status .entry)) (now (withdrawn .entry)) (now (lengths .entry)) (now (programs .entry)) (now (reads .entry)) (now (writes .entry)) (now (sources .entry)) (now (seen .entry)) (now (targets .entry)) (now (written .entry)) (now (view .entry))) (now (settings .entry)) in (r ≡ answerNumber (reply .answer)) × (now (settings .exit) ≡ reply .settings)) ⌝ }
+{
+    answer_number(plain_run(
+        n,
+        held,
+        timestamps,
+        order,
+        status,
+        withdrawn,
+        lengths,
+        programs,
+        reads,
+        writes,
+        sources,
+        seen,
+        targets,
+        written,
+        view,
+        settings,
+    ))
+}

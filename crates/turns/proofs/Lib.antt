@@ -1,0 +1,4 @@
+pub mod Parts
+pub mod Steps
+pub mod Acts
+pub mod Model
