@@ -2,12 +2,12 @@
 use mathlib.Core.Path.{_≡_, refl, sym, ap, ap₂, subst, _∙_}
 use mathlib.Core.Bool.{true, false}
 use mathlib.Core.List.{List, [], _∷_, _++_}
-use Prim.Native.Nat.{ℕ, zero, suc, _≤_, _<_}
+use Prim.Native.Nat.{ℕ, zero, suc, _≤_}
 use native.Mathlib.Omega.{arith}
 use lib.IntN.{pos}
 use lib.ListN.{length, getD, take}
 use lib.Seq.{take-suc, take-all}
-use Rattle.machine.specs.Settings.{settingCount, Environment, valueIn, Entry, _orElse_, lookup, Holds, Distinct, after, carry}
+use Rattle.machine.specs.Settings.{settingCount, Environment, valueIn, Entry, _orElse_, lookup, after, carry}
 use Rattle.machine.specs.Run.{run}
 use Rattle.machine.proofs.Settings.{carry-after, length-carry}
 use Rattle.machine.proofs.Lists.{run-agree}

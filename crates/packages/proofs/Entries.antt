@@ -1,17 +1,16 @@
 -- The layout of a package: its tests in the order of the code, and what it tells of entries and bodies.
 use mathlib.Core.Path.{_≡_}
-use mathlib.Core.Bool.{Bool, true, false, _&&_, _||_, and-assoc, and-true}
+use mathlib.Core.Bool.{Bool, true, false, _&&_, and-assoc, and-true}
 use mathlib.Core.List.{List}
 use Prim.Native.Nat.{ℕ, zero, suc, _+_, _-_, _*_, _≤_, _<_}
 use native.Mathlib.Numerals.{add-one}
 use native.Mathlib.Omega.{arith}
-use borrow.Author.Tests.{leb-true, eqb-true, le-leb, lt-leb, ne-eqb}
+use borrow.Author.Tests.{leb-true, eqb-true, le-leb, lt-leb}
 use lib.Dec.{eqb, leb}
 use lib.ListN.{length, getD}
 use Rattle.machine.specs.Form.{allBelow}
-use Rattle.machine.proofs.Cases.{both, either}
-use Rattle.machine.proofs.Form.{all-below}
-use Rattle.model.specs.Package.{entryCount, entryAt, kindOf, countOf, entryFits, countBefore, bodyAt, layoutFits}
+use Rattle.machine.proofs.Cases.{both}
+use Rattle.model.specs.Package.{entryCount, entryAt, countOf, entryFits, countBefore, bodyAt, layoutFits}
 
 -- ---- the instructions before a body
 
@@ -63,31 +62,12 @@ module _ (bytes : List ℕ) where
 
 -- ---- what the layout tells
 
--- a kind, and an instruction count, which is 0 for a withdrawal
-pub record RightEntry (bytes : List ℕ) (j : ℕ) : Type 0 where
-  pub kind : kindOf bytes j ≤ 1
-  pub count : countOf bytes j ≤ 32
-  pub no-body : (kindOf bytes j ≡ 0 → ⊥) → countOf bytes j ≡ 0
-
--- what the test of an entry tells
-entry-of : (bytes : List ℕ) (j : ℕ) → entryFits bytes j ≡ true → RightEntry bytes j
-entry-of bytes j e =
-    let k = both (leb (kindOf bytes j) 1) e in
-    let n = both (leb (countOf bytes j) 32) (k .1) in
-    let z = both (eqb (kindOf bytes j) 0 || eqb (countOf bytes j) 0) (n .1) in
-    record {
-      kind = leb-true _ _ (k .0);
-      count = leb-true _ _ (n .0);
-      no-body = λ h. eqb-true _ 0 (either (eqb (kindOf bytes j) 0) (z .0) (ne-eqb (kindOf bytes j) 0 h));
-    }
-
--- at most 65,535 bytes, at most 512 entries, each right, and bodies that end where the bytes do
+-- at most 65,535 bytes, at most 512 entries, and bodies that end where the bytes do
 pub record LaidOut (bytes : List ℕ) : Type 0 where
   pub some-bytes : 2 ≤ length bytes
   pub short : length bytes ≤ 65535
   pub few : entryCount bytes ≤ 512
   pub within : entryAt (entryCount bytes) ≤ length bytes
-  pub entries : (j : ℕ) → j < entryCount bytes → RightEntry bytes j
   pub filled : length bytes ≡ bodyAt bytes (entryCount bytes)
 
 -- what the test of the layout tells
@@ -105,7 +85,6 @@ laid-out bytes e =
       short = leb-true _ _ (short .0);
       few = leb-true _ _ (few .0);
       within = leb-true _ _ (within .0);
-      entries = λ j h. entry-of bytes j (all-below n (entryFits bytes) (entries .0) j h);
       filled = eqb-true _ _ (both (eqb (length bytes) (bodyAt bytes n)) (entries .1) .0);
     }
 

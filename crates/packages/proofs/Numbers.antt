@@ -5,7 +5,7 @@ use Prim.Native.Nat.{ℕ, zero, suc, _+_, _-_, _*_, _^_, _≤_, _<_}
 use native.Mathlib.Nat.{pow-succ', pow-le-pow-right}
 use native.Mathlib.Omega.{arith}
 use lib.ListN.{getD}
-use Rattle.model.specs.Package.{numberAt, stampOf, entryAt}
+use Rattle.model.specs.Package.{numberAt}
 
 -- one byte more, before the others
 pub number-next : (bytes : List ℕ) (i size k : ℕ) → 0 < k → k ≤ size → getD bytes (i + (k - 1)) 0 + 256 * numberAt bytes (i + k) (size - k) ≡ numberAt bytes (i + (k - 1)) (size - (k - 1))
@@ -27,7 +27,3 @@ module _ (bytes : List ℕ) (small : (i : ℕ) → getD bytes i 0 < 256) where
   number-fits i size h =
       let p : 256 ^ size ≤ 256 ^ 8 = pow-le-pow-right (omega arith) h in
       omega (arith, number-below i size)
-
-  -- and so does a timestamp
-  pub stamp-fits : (j : ℕ) → stampOf bytes j < 18446744073709551616
-  stamp-fits j = number-fits (entryAt j) 8 (omega arith)

@@ -1,7 +1,7 @@
 // Searches in the tables: a timestamp in the order list, and the write of a setting below a position of it.
 ghost use mathlib.Core.Path.{_≡_};
-ghost use Prim.Native.Nat.{ℕ, _+_, _*_, _<_, _≤_};
-ghost use lib.ListN.{length, getD, drop};
+ghost use Prim.Native.Nat.{_+_, _*_, _<_, _≤_};
+ghost use lib.ListN.{length, drop};
 ghost use Rattle.machine.specs.Settings.{lookup, entries};
 ghost use Rattle.search.specs.Raw.{rankOf, positionOf, foundOf, writtenOf, previousWrite, Placed, Listed};
 

@@ -1,7 +1,7 @@
 -- One turn on tables in form: what the code relies on, and a law for each outcome.
 use mathlib.Core.Path.{_≡_, refl, sym, ap, ap₂, subst, _∙_}
-use mathlib.Core.Bool.{Bool, true, cond}
-use mathlib.Core.List.{List, [], _∷_, _++_}
+use mathlib.Core.Bool.{Bool, cond}
+use mathlib.Core.List.{List, [], _++_}
 use mathlib.Core.Option.{none, some}
 use Prim.Native.Nat.{ℕ, suc, _+_, _*_, _<_, _≤_}
 use native.Mathlib.Numerals.{add-one}
@@ -15,22 +15,21 @@ use Rattle.interpreter.specs.declared.record.Run.{Run}
 use Rattle.interpreter.specs.Record as record-of
 use Rattle.model.specs.declared.Turned.the-variants as turn-answer
 use Rattle.model.specs.History.{start, Valid, Lists, empty, runLists, Change, change, timestamp, program, status, withdrawn, lists, History, allSettings, allHold}
-use Rattle.model.specs.Figure.{Event, Step, idle, turned, ran, stood, cleared}
-use Rattle.model.specs.Walk.{differs, markLive, liveAtEnd}
+use Rattle.model.specs.Figure.{Event, Step, turned}
+use Rattle.model.specs.Walk.{differs, liveAtEnd}
 use Rattle.model.specs.Cabinet.{blank, withHistory}
-use Rattle.model.specs.Tables.{Tables, tables, flagNumber, statusNumber, settingsOf, valuesOf, heldCount, decode, encode}
+use Rattle.model.specs.Tables.{Tables, tables, flagNumber, settingsOf, valuesOf, heldCount, decode, encode}
 use Rattle.model.specs.Calls.{reply, eventAnswer, stepReply, roundOf}
 use Rattle.model.specs.Sound.{Sound}
 use Rattle.model.proofs.Entries.{settings-entries, values-entries, length-entries}
 use Rattle.model.proofs.Figure.{round-walk}
 use Rattle.model.proofs.Form.{decode-sound, encode-decode}
-use Rattle.model.proofs.Programs.{runLists-bounded}
 use Rattle.model.proofs.Tables.{timestamp-at, withdrawn-at}
 use Rattle.model.proofs.Tests.{Lengths, FormTests, lengths-of, form-of}
-use Rattle.search.proofs.Model.{historyIn, placed-writes, listed, held-changes, by-place}
+use Rattle.search.proofs.Model.{historyIn, placed-writes, listed, by-place}
 use Rattle.execution.specs.Raw.{valuesBelow}
 use Rattle.execution.proofs.Passes.{passes, passes-turned}
-use Rattle.execution.proofs.Model.{waitingIn, uptoIn, targetsAt, status-of, walk-none, waiting-held, waiting-some, walk-some, values-below, new-below, program-here, program-size, program-formed, reads-here, targets-below, live-differs, values-new}
+use Rattle.execution.proofs.Model.{waitingIn, uptoIn, status-of, walk-none, waiting-held, waiting-some, walk-some, values-below, new-below, program-here, program-size, program-formed, reads-here, targets-below, live-differs, values-new}
 use Rattle.marking.specs.Raw.{isLive, followed, replaced, replacedZ}
 use Rattle.marking.proofs.Live.{Agree}
 use Rattle.marking.proofs.Cabinet.{liveIn}

@@ -12,7 +12,6 @@ use Rattle.machine.specs.Form.{wellFormed}
 use Rattle.machine.specs.Run.{run}
 use Rattle.interpreter.specs.declared.record.Run.{Run}
 use Rattle.interpreter.specs.Record.{Lists, Ran}
-use Rattle.model.specs.Tables.{slots}
 use Rattle.model.proofs.Entries.{entries-take}
 use Rattle.tables.proofs.Parts.{used-part}
 use Rattle.search.specs.Raw.{writesIn}

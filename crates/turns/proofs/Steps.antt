@@ -1,8 +1,8 @@
 -- What the code of a turn does, step by step, on the lent lists.
-use mathlib.Core.Path.{_≡_, refl, sym, ap, ap₂, _∙_}
+use mathlib.Core.Path.{_≡_, ap, ap₂, _∙_}
 use mathlib.Core.Bool.{Bool, true, false}
 use mathlib.Core.List.{List}
-use Prim.Native.Nat.{ℕ, _+_, _-_, _*_, _≤_, _<_}
+use Prim.Native.Nat.{ℕ, _+_, _-_, _*_}
 use native.Mathlib.Omega.{arith}
 use borrow.Author.Tests.{eq-eqb, ne-eqb}
 use lib.IntN.{ℤ, pos}
@@ -10,8 +10,7 @@ use lib.ListN.{length, getD, set, take, drop, replicate}
 use Rattle.machine.specs.Settings.{settingCount, Environment}
 use Rattle.tables.proofs.Parts.{used-part}
 use Rattle.execution.specs.Raw.{oldValues, newValues, markedLive, markedValues}
-use Rattle.marking.specs.Raw.{listAt, markedStatus, liveAfter, followed}
-use Rattle.turns.specs.declared.Act.{Act}
+use Rattle.marking.specs.Raw.{markedStatus, liveAfter, followed}
 use Rattle.turns.specs.declared.Act.the-variants as act
 use Rattle.turns.specs.Raw.{actOf, changedLive, changedValues, statusAfter, viewAfter, Propagable, Room}
 use Rattle.turns.proofs.Parts.{part, first-part}

@@ -11,13 +11,10 @@ use marking::put_values;
 use model::Turned;
 use search::Found;
 ghost use mathlib.Core.Path.{_≡_};
-ghost use mathlib.Core.Bool.{true};
-ghost use Prim.Native.Nat.{_+_, _*_, _<_, _≤_};
+ghost use Prim.Native.Nat.{_+_, _*_};
 ghost use lib.ListN.{length, getD};
-ghost use Rattle.machine.specs.Form.{wellFormed};
 ghost use Rattle.machine.specs.Run.{run};
 ghost use Rattle.interpreter.specs.Record.{lists, Sized, Ran};
-ghost use Rattle.search.specs.Raw.{Placed, Listed};
 ghost use Rattle.execution.specs.Raw.{valuesBelow};
 ghost use Rattle.execution.proofs.Model.{waitingIn};
 ghost use mathlib.Core.Option.{some};
@@ -33,7 +30,7 @@ pub enum Act {
 }
 
 // What the turn of the change at a position does: withdrawn, it is cleared; Invalid with every value seen as of its timestamp, it stands; else it runs.
-pub fn act_at(
+fn act_at(
     k: usize,
     count: usize,
     order: &[u16],

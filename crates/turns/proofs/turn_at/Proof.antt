@@ -1,14 +1,12 @@
 -- `turns::turn_at` meets its contract: an outcome for each return. Assumes nothing.
-use mathlib.Core.Path.{_≡_, refl}
-use mathlib.Core.Option.{some}
+use mathlib.Core.Path.{refl}
 use native.Mathlib.Omega.{arith}
 use borrow.Author.Needs.{needs}
 use Prim.Native.Nat.{_≤_}
 use lib.ListN.{length, getD, length-set}
 use Rattle.model.specs.Tables.{Tables, tables}
-use Rattle.execution.proofs.Model.{waitingIn}
 use Rattle.turns.specs.Raw as raw
-use Rattle.turns.proofs.Model.{Slots, slots, decidable, runnable, columnsOf, columns-sized, none-sized, installable, turn-stood, turn-cleared, turn-ran, short}
+use Rattle.turns.proofs.Model.{Slots, slots, decidable, runnable, columns-sized, none-sized, installable, turn-stood, turn-cleared, turn-ran, short}
 use Rattle.turns.proofs.turn_at.Statement.{statement}
 use Rattle.turns.proofs.turn_at.Tie as tie
 

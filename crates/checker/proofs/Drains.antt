@@ -1,0 +1,195 @@
+-- A drain of tables in form, turn by turn.
+use mathlib.Core.Path.{_≡_, refl, sym, ap, ap₂, subst, _∙_}
+use mathlib.Core.Bool.{Bool, true, false, cond}
+use mathlib.Core.List.{List, [], _∷_}
+use Prim.Native.Nat.{ℕ, zero, suc, _+_, _<_, _≤_}
+use native.Mathlib.Omega.{arith}
+use lib.IntN.{ℤ}
+use lib.ListN.{length}
+use Rattle.machine.specs.Settings.{Environment}
+use Rattle.machine.proofs.Cases.{true-is-not-false}
+use Rattle.model.specs.declared.Totals.{Totals}
+use Rattle.model.specs.declared.Turned.{Turned}
+use Rattle.model.specs.History.{start, History}
+use Rattle.model.specs.Figure.{Event, ran, stood, cleared, Step, idle, turned, round}
+use Rattle.model.specs.Drain.{Drain, drainNone, drainMore, drainStep, drainFor, drainHistory, total, totals}
+use Rattle.model.specs.Cabinet.{Cabinet, historyOf, withHistory}
+use Rattle.model.specs.Tables.{Tables, encode, decode}
+use Rattle.model.specs.Form.{lengthsFit, inForm}
+use Rattle.model.specs.Calls.{Reply, reply, eventAnswer, stepReply, roundOf, drainOf}
+use Rattle.model.specs.Sound.{Sound}
+use Rattle.model.proofs.Cabinet.{withHistory-history}
+use Rattle.model.proofs.Encode.{lengths-encode}
+use Rattle.model.proofs.Figure.{drain-idle, drain-next}
+use Rattle.model.proofs.Form.{encode-lengths, encode-form, decode-sound, encode-decode}
+use Rattle.model.proofs.Keeps.{StepKeeps, Keeps, keeps-length, round-keeps, drain-keeps, round-sound}
+use Rattle.model.proofs.Order.{changesAt-length}
+use Rattle.model.proofs.Tables.{decode-encode}
+use Rattle.turns.specs.Raw as turns
+use Rattle.checker.specs.Raw.{countedIn, goesOn, drained}
+use Rattle.checker.proofs.Cabinets.{same-history, history-again}
+
+-- ---- totals
+
+-- of two lists of turns
+abbrev sums : Totals → Totals → Totals
+sums m n = record { ran = m .ran + n .ran; stood = m .stood + n .stood; cleared = m .cleared + n .cleared }
+
+abbrev three : ℕ → ℕ → ℕ → Totals
+three r s c = record { ran = r; stood = s; cleared = c }
+
+sums-none : (n : Totals) → sums n (totals []) ≡ n
+sums-none n =
+    let r : n .ran + 0 ≡ n .ran = omega arith in
+    let s : n .stood + 0 ≡ n .stood = omega arith in
+    let c : n .cleared + 0 ≡ n .cleared = omega arith in
+    λ j. three (r j) (s j) (c j)
+
+none-sums : (n : Totals) → sums (three 0 0 0) n ≡ n
+none-sums n =
+    let r : 0 + n .ran ≡ n .ran = omega arith in
+    let s : 0 + n .stood ≡ n .stood = omega arith in
+    let c : 0 + n .cleared ≡ n .cleared = omega arith in
+    λ j. three (r j) (s j) (c j)
+
+-- a turn counted now or with the rest
+sums-next : (e : Event) (m n : Totals) → sums (countedIn (eventAnswer e) m) n ≡ sums m (total e n)
+sums-next (ran t l) m n = let e : m .ran + 1 + n .ran ≡ m .ran + suc (n .ran) = omega arith in λ j. three (e j) (m .stood + n .stood) (m .cleared + n .cleared)
+sums-next (stood t) m n = let e : m .stood + 1 + n .stood ≡ m .stood + suc (n .stood) = omega arith in λ j. three (m .ran + n .ran) (e j) (m .cleared + n .cleared)
+sums-next (cleared t) m n = let e : m .cleared + 1 + n .cleared ≡ m .cleared + suc (n .cleared) = omega arith in λ j. three (m .ran + n .ran) (m .stood + n .stood) (e j)
+
+event-goes-on : (e : Event) → goesOn (eventAnswer e) ≡ true
+event-goes-on (ran t l) = refl
+event-goes-on (stood t) = refl
+event-goes-on (cleared t) = refl
+
+-- there are at most as many turns as changes
+total-within : (events : List Event) → totals events .ran + totals events .stood + totals events .cleared ≤ length events
+total-within [] = omega arith
+total-within (ran t l ∷ events) = let rest = total-within events in omega arith
+total-within (stood t ∷ events) = let rest = total-within events in omega arith
+total-within (cleared t ∷ events) = let rest = total-within events in omega arith
+
+drain-within : (k : ℕ) (env : Environment) (h : History) (view : List ℤ) → length (drainFor k env h view .events) ≤ k
+unfolding drainFor
+drain-within zero env h view = omega arith
+drain-within (suc k) env h view = go (drain-within k env) (round env h view)
+  where
+    go : ((h : History) (view : List ℤ) → length (drainFor k env h view .events) ≤ k) → (s : Step) → length (drainStep (drainFor k env) (drainNone h view) s .events) ≤ suc k
+    go ih idle = omega arith
+    go ih (turned h' view' e) = let rest = ih h' view' in omega arith
+
+-- ---- the tables of a drain under way
+
+-- how many turns are left, one for the idle one
+abbrev pub turnsLeft : Tables → Bool → ℕ
+turnsLeft T going = cond going (suc (length (drainOf (decode T) .events))) 0
+
+-- n counts the turns so far: the drain of what is left is the rest of the whole drain
+pub record Draining (T₀ T : Tables) (n : Totals) (going : Bool) : Type 0 where
+  pub formed : turns.Formed T
+  pub rest : drained T .tables ≡ drained T₀ .tables
+  pub counts : sums n (drained T .answer) ≡ drained T₀ .answer
+  pub ended : going ≡ false → roundOf (decode T) ≡ idle
+
+module _ (T : Tables) (g : turns.Formed T) where
+  abbrev capacity : ℕ
+  capacity = length (T .order)
+
+  sound : Sound capacity (decode T)
+  sound = decode-sound capacity T (g .0) (g .1)
+
+  -- no turn yet
+  pub drain-begins : Draining T T (three 0 0 0) true
+  drain-begins = record { formed = g; rest = refl; counts = none-sums (drained T .answer); ended = λ e. true-is-not-false e }
+
+  -- an idle turn is the last
+  idle-drained : roundOf (decode T) ≡ idle → drained T ≡ reply (three 0 0 0) T
+  idle-drained q =
+      ap (λ (d : Drain). reply (totals (d .events)) (encode capacity (withHistory (decode T) (d .history) (d .view)))) (drain-idle start (historyOf (decode T)) (decode T .view) q)
+      ∙ ap (reply (three 0 0 0)) (ap (encode capacity) (same-history (decode T)) ∙ encode-decode capacity T (g .0) (g .1))
+
+  -- the drain after a turn is the rest of the drain before it
+  module _ {h : History} {view : List ℤ} {e : Event} (q : roundOf (decode T) ≡ turned h view e) where
+    abbrev next : Cabinet
+    next = withHistory (decode T) h view
+
+    abbrev left : Tables
+    left = encode capacity next
+
+    next-sound : Sound capacity next
+    next-sound = round-sound sound q
+
+    keeps : Keeps (historyOf (decode T)) (decode T .view) h view
+    keeps = subst (StepKeeps (historyOf (decode T)) (decode T .view)) q (round-keeps start (historyOf (decode T)) (decode T .view))
+
+    left-capacity : length (left .order) ≡ capacity
+    left-capacity = lengths-encode capacity next next-sound .order
+
+    left-formed : turns.Formed left
+    left-formed = subst (λ (m : ℕ). (lengthsFit m left ≡ true) × (inForm m left ≡ true)) (sym left-capacity) (encode-lengths capacity next next-sound, encode-form capacity next next-sound)
+
+    drain-left : drainOf (decode left) ≡ drainHistory start h view
+    drain-left =
+        ap drainOf (decode-encode capacity next next-sound)
+        ∙ ap (λ (g : History). drainHistory start g view) (withHistory-history (decode T) h view (sound .placed) (keeps-length keeps))
+
+    drain-first : drainOf (decode T) ≡ drainMore e (drainOf (decode left))
+    drain-first = drain-next start (historyOf (decode T)) (decode T .view) (sound .rising) q ∙ ap (drainMore e) (sym drain-left)
+
+    tables-left : drained left .tables ≡ drained T .tables
+    tables-left =
+        let d = drainOf (decode left) in
+        ap₂ (λ (m : ℕ) (c : Cabinet). encode m (withHistory c (d .history) (d .view))) left-capacity (decode-encode capacity next next-sound)
+        ∙ ap (encode capacity) (history-again (decode T) h (d .history) view (d .view) (sound .placed) (drain-length ∙ keeps-length keeps))
+        ∙ ap (λ (d : Drain). encode capacity (withHistory (decode T) (d .history) (d .view))) (sym drain-first)
+      where
+        drain-length : length (drainOf (decode left) .history) ≡ length h
+        drain-length = ap (λ (d : Drain). length (d .history)) drain-left ∙ keeps-length (drain-keeps start h view)
+
+    events-left : drainOf (decode T) .events ≡ e ∷ drainOf (decode left) .events
+    events-left = ap (λ (d : Drain). d .events) drain-first
+
+  -- ---- one turn
+
+  module _ {T₀ : Tables} {n : Totals} {going : Bool} (k : Draining T₀ T n going) where
+    after-step : (s : Step) → roundOf (decode T) ≡ s → let r = stepReply capacity T (decode T) s in Draining T₀ (r .tables) (countedIn (r .answer) n) (goesOn (r .answer)) × (turnsLeft (r .tables) (goesOn (r .answer)) < turnsLeft T true)
+    after-step idle q = (record { formed = g; rest = k .rest; counts = k .counts; ended = λ z. q }, omega arith)
+    after-step (turned h view e) q = (
+      record {
+        formed = left-formed q;
+        rest = tables-left q ∙ k .rest;
+        counts = sums-next e n (drained (left q) .answer) ∙ ap (λ (events : List Event). sums n (totals events)) (sym (events-left q)) ∙ k .counts;
+        ended = λ z. true-is-not-false (sym (event-goes-on e) ∙ z);
+      },
+      rw (event-goes-on e, events-left q) (omega arith),
+    )
+
+    -- after `turn_once`
+    pub drain-goes-on : {a : Turned} {U : Tables} {n' : Totals} {going' : Bool} → going ≡ true → reply a U ≡ turns.turned T → n' ≡ countedIn a n → going' ≡ goesOn a → Draining T₀ U n' going' × (turnsLeft U going' < turnsLeft T going)
+    drain-goes-on {a} {U} t e c d =
+        let both = subst (λ (r : Reply Turned). Draining T₀ (r .tables) (countedIn (r .answer) n) (goesOn (r .answer)) × (turnsLeft (r .tables) (goesOn (r .answer)) < turnsLeft T true)) (sym e) (after-step (roundOf (decode T)) refl) in
+        rw (c, d, t) both
+
+    -- at the end
+    pub drain-ends-here : going ≡ false → reply n T ≡ drained T₀
+    drain-ends-here z =
+        let done = idle-drained (k .ended z) in
+        ap₂ reply (sym (sums-none n) ∙ ap (λ (r : Reply Totals). sums n (r .answer)) (sym done) ∙ k .counts) (ap (λ (r : Reply Totals). r .tables) (sym done) ∙ k .rest)
+
+-- the totals so far are within the capacity
+pub totals-small : {T₀ T : Tables} {n : Totals} {going : Bool} → turns.Formed T₀ → Draining T₀ T n going → (n .ran ≤ 4096) × (n .stood ≤ 4096) × (n .cleared ≤ 4096)
+unfolding drainHistory
+totals-small {T₀} {T} {n} g k =
+    let c = decode T₀ in
+    let s = sound T₀ g in
+    let ran = ap (λ (t : Totals). t .ran) (k .counts) in
+    let stood = ap (λ (t : Totals). t .stood) (k .counts) in
+    let cleared = ap (λ (t : Totals). t .cleared) (k .counts) in
+    let all = total-within (drainOf c .events) in
+    let turns = drain-within (length (historyOf c)) start (historyOf c) (c .view) in
+    let held = changesAt-length (c .changes) (c .order) in (
+      omega (arith, ran, all, turns, held, s .placed .counted, s .small, s .capacity),
+      omega (arith, stood, all, turns, held, s .placed .counted, s .small, s .capacity),
+      omega (arith, cleared, all, turns, held, s .placed .counted, s .small, s .capacity),
+    )

@@ -1,0 +1,57 @@
+-- `checker::drain` meets its contract: an outcome for each return. Assumes nothing.
+use borrow.Author.Needs.{needs}
+use Rattle.model.specs.Tables.{Tables, tables}
+use Rattle.tables.proofs.Faults.{Faultless, faultless}
+use Rattle.checker.proofs.Outcomes.{drain-fault, formed, drain-done}
+use Rattle.checker.proofs.drain.Statement.{statement}
+use Rattle.checker.proofs.drain.Tie as tie
+
+abbrev lent : tie.Start → Tables
+lent s =
+    let a = s .args in
+    tables (a .held .now) (a .timestamps .now) (a .order .now) (a .status .now) (a .withdrawn .now) (a .lengths .now) (a .programs .now) (a .reads .now) (a .writes .now) (a .sources .now) (a .seen .now) (a .targets .now) (a .written .now) (a .view .now)
+
+abbrev entry : tie.After-fault → tie.Start
+entry c = c .before .before .before .before .before .before .before .before .before .before .before .before .before .before .before .before .before .before .before .before
+
+fits : (c : tie.Else1) → let s = entry (c .before) in Faultless (s .args .n) (lent s)
+fits c = faultless _ (lent (entry (c .before))) (c .before .fault .ensures) (c .if1 .left)
+
+returns : tie.Need-returns
+returns c = drain-fault _ (lent (entry (c .before))) (c .before .fault .ensures) (c .if1 .taken)
+
+turn-all-requires : tie.Need-turn-all-requires
+turn-all-requires c κs =
+    let u = c .before .before .before .before .before .before .before .before in
+    formed _ (lent (entry (u .before))) (fits u)
+
+returns-2 : tie.Need-returns-2
+returns-2 c =
+    let t = c .before .before .before .before .before .before .before .before .before .before .before .before .before in
+    let u = t .before .before .before .before .before .before .before .before .before in
+    drain-done _ (lent (entry (u .before))) (fits u) (t .turn-all .ensures)
+
+pub drain-spec : {M : Type 1} → statement M
+drain-spec =
+    tie.close
+    (tie.spec
+    (λ c κs. search needs)
+    (λ c. search needs)
+    (λ c. search needs)
+    (λ c. search needs)
+    (λ c. search needs)
+    (λ c. search needs)
+    (λ c. search needs)
+    (λ c. search needs)
+    (λ c. search needs)
+    returns
+    turn-all-requires
+    (λ c. c .before .before .before .before .before .before .before .before .before .before .before .before .before .turn-all .kept .1 .1 .1 .0)
+    (λ c. c .before .before .before .before .before .before .before .before .before .before .before .before .before .turn-all .kept .1 .1 .1 .1 .1 .1 .1 .0)
+    (λ c. c .before .before .before .before .before .before .before .before .before .before .before .before .before .turn-all .kept .1 .1 .1 .1 .1 .1 .1 .1 .0)
+    (λ c. c .before .before .before .before .before .before .before .before .before .before .before .before .before .turn-all .kept .1 .1 .1 .1 .1 .1 .1 .1 .1 .0)
+    (λ c. c .before .before .before .before .before .before .before .before .before .before .before .before .before .turn-all .kept .1 .1 .1 .1 .1 .1 .1 .1 .1 .1 .0)
+    (λ c. c .before .before .before .before .before .before .before .before .before .before .before .before .before .turn-all .kept .1 .1 .1 .1 .1 .1 .1 .1 .1 .1 .1 .0)
+    (λ c. c .before .before .before .before .before .before .before .before .before .before .before .before .before .turn-all .kept .1 .1 .1 .1 .1 .1 .1 .1 .1 .1 .1 .1 .0)
+    (λ c. c .before .before .before .before .before .before .before .before .before .before .before .before .before .turn-all .kept .1 .1 .1 .1 .1 .1 .1 .1 .1 .1 .1 .1 .1 .0)
+    returns-2)

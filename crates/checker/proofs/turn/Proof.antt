@@ -1,0 +1,57 @@
+-- `checker::turn` meets its contract: an outcome for each return. Assumes nothing.
+use borrow.Author.Needs.{needs}
+use Rattle.model.specs.Tables.{Tables, tables}
+use Rattle.tables.proofs.Faults.{Faultless, faultless}
+use Rattle.checker.proofs.Outcomes.{turn-fault, formed, turn-done}
+use Rattle.checker.proofs.turn.Statement.{statement}
+use Rattle.checker.proofs.turn.Tie as tie
+
+abbrev lent : tie.Start → Tables
+lent s =
+    let a = s .args in
+    tables (a .held .now) (a .timestamps .now) (a .order .now) (a .status .now) (a .withdrawn .now) (a .lengths .now) (a .programs .now) (a .reads .now) (a .writes .now) (a .sources .now) (a .seen .now) (a .targets .now) (a .written .now) (a .view .now)
+
+abbrev entry : tie.After-fault → tie.Start
+entry c = c .before .before .before .before .before .before .before .before .before .before .before .before .before .before .before .before .before .before .before .before
+
+fits : (c : tie.Else1) → let s = entry (c .before) in Faultless (s .args .n) (lent s)
+fits c = faultless _ (lent (entry (c .before))) (c .before .fault .ensures) (c .if1 .left)
+
+returns : tie.Need-returns
+returns c = turn-fault _ (lent (entry (c .before))) (c .before .fault .ensures) (c .if1 .taken)
+
+turn-once-requires : tie.Need-turn-once-requires
+turn-once-requires c κs =
+    let u = c .before .before .before .before .before .before .before .before in
+    formed _ (lent (entry (u .before))) (fits u)
+
+returns-2 : tie.Need-returns-2
+returns-2 c =
+    let t = c .before .before .before .before .before .before .before .before .before .before .before .before .before in
+    let u = t .before .before .before .before .before .before .before .before .before in
+    turn-done _ (lent (entry (u .before))) (fits u) (t .turn-once .ensures)
+
+pub turn-spec : {M : Type 1} → statement M
+turn-spec =
+    tie.close
+    (tie.spec
+    (λ c κs. search needs)
+    (λ c. search needs)
+    (λ c. search needs)
+    (λ c. search needs)
+    (λ c. search needs)
+    (λ c. search needs)
+    (λ c. search needs)
+    (λ c. search needs)
+    (λ c. search needs)
+    returns
+    turn-once-requires
+    (λ c. c .before .before .before .before .before .before .before .before .before .before .before .before .before .turn-once .kept .1 .1 .1 .0)
+    (λ c. c .before .before .before .before .before .before .before .before .before .before .before .before .before .turn-once .kept .1 .1 .1 .1 .1 .1 .1 .0)
+    (λ c. c .before .before .before .before .before .before .before .before .before .before .before .before .before .turn-once .kept .1 .1 .1 .1 .1 .1 .1 .1 .0)
+    (λ c. c .before .before .before .before .before .before .before .before .before .before .before .before .before .turn-once .kept .1 .1 .1 .1 .1 .1 .1 .1 .1 .0)
+    (λ c. c .before .before .before .before .before .before .before .before .before .before .before .before .before .turn-once .kept .1 .1 .1 .1 .1 .1 .1 .1 .1 .1 .0)
+    (λ c. c .before .before .before .before .before .before .before .before .before .before .before .before .before .turn-once .kept .1 .1 .1 .1 .1 .1 .1 .1 .1 .1 .1 .0)
+    (λ c. c .before .before .before .before .before .before .before .before .before .before .before .before .before .turn-once .kept .1 .1 .1 .1 .1 .1 .1 .1 .1 .1 .1 .1 .0)
+    (λ c. c .before .before .before .before .before .before .before .before .before .before .before .before .before .turn-once .kept .1 .1 .1 .1 .1 .1 .1 .1 .1 .1 .1 .1 .1 .0)
+    returns-2)

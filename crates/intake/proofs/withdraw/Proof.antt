@@ -1,0 +1,46 @@
+-- `intake::withdraw` meets its contract: an outcome for each return. Assumes nothing.
+use borrow.Author.Needs.{needs}
+use Rattle.model.specs.Tables.{Tables, tables}
+use Rattle.tables.proofs.Faults.{Faultless, faultless}
+use Rattle.intake.proofs.Items.{withdraw-item-ready}
+use Rattle.intake.proofs.Outcomes.{withdraw-fault, withdraw-reply}
+use Rattle.intake.proofs.withdraw.Statement.{statement}
+use Rattle.intake.proofs.withdraw.Tie as tie
+
+abbrev lent : tie.Start → Tables
+lent s =
+    let a = s .args in
+    tables (a .held .now) (a .timestamps .now) (a .order .now) (a .status .now) (a .withdrawn .now) (a .lengths .now) (a .programs .now) (a .reads .now) (a .writes .now) (a .sources .now) (a .seen .now) (a .targets .now) (a .written .now) (a .view .now)
+
+abbrev entry : tie.After-fault → tie.Start
+entry c = c .before .before .before .before .before .before .before .before .before .before .before .before .before .before
+
+fits : (c : tie.Else1) → let s = entry (c .before) in Faultless (s .args .n) (lent s)
+fits c = faultless _ (lent (entry (c .before))) (c .before .fault .ensures) (c .if1 .left)
+
+returns : tie.Need-returns
+returns c = withdraw-fault _ (lent (entry (c .before))) _ (c .before .fault .ensures) (c .if1 .taken)
+
+withdraw-item-requires : tie.Need-withdraw-item-requires
+withdraw-item-requires c κs =
+    let u = c .before .before in
+    withdraw-item-ready _ (lent (entry (u .before))) (fits u) _
+
+returns-2 : tie.Need-returns-2
+returns-2 c =
+    let i = c .before .before .before .before in
+    let u = i .before .before .before in
+    withdraw-reply _ (lent (entry (u .before))) _ (fits u) (i .withdraw-item .ensures)
+
+pub withdraw-spec : {M : Type 1} → statement M
+withdraw-spec =
+    tie.close
+    (tie.spec
+    (λ c κs. tt)
+    (λ c. search needs)
+    (λ c. search needs)
+    returns
+    withdraw-item-requires
+    (λ c. search needs)
+    (λ c. search needs)
+    returns-2)
