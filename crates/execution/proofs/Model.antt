@@ -196,9 +196,6 @@ module _ (n : ℕ) (T : Tables) (e : lengthsFit n T ≡ true) (q : inForm n T �
     pub targets-below : (i : ℕ) → i < length (targetsAt T place) → getD (targetsAt T place) i 0 < settingCount
     targets-below = rw targets-part (settings-below (lists here .writes) (here-sound .writes .distinct))
 
-    pub place-written : place < length (T .writes)
-    place-written = omega (arith, form .places k h, lengths .writes, form .small)
-
     -- ---- the settings that change where its writes are replaced by the first count of new ones
 
     old-is : oldIn T k ≡ after (lists here .writes) (uptoIn T k)

@@ -9,7 +9,7 @@ use Rattle.machine.specs.Settings.{settingCount, Environment, valueIn}
 use Rattle.machine.proofs.Cases.{by-test₂}
 use Rattle.model.specs.History.{Change, status, allSettings}
 use Rattle.model.specs.Walk.{markLive, liveAtEnd}
-use Rattle.model.specs.Cabinet.{blank, changesAt, historyOf, putAt, withHistory}
+use Rattle.model.specs.Cabinet.{blank, historyOf, withHistory}
 use Rattle.model.specs.Tables.{Tables, statusNumber, heldCount, encode, decode}
 use Rattle.model.specs.Form.{lengthsFit, inForm}
 use Rattle.model.specs.Sound.{Sound}
@@ -17,8 +17,8 @@ use Rattle.model.proofs.Tables.{held-count}
 use Rattle.model.proofs.Values.{allSettings-same}
 use Rattle.model.proofs.Form.{decode-sound, encode-decode}
 use Rattle.marking.specs.Raw.{isLive, followed, Walkable}
-use Rattle.marking.proofs.Live.{statuses, Agree}
-use Rattle.marking.proofs.Cabinet.{markedIn, liveIn, walkable, live-past, marked-past}
+use Rattle.marking.proofs.Live.{Agree}
+use Rattle.marking.proofs.Cabinet.{liveIn, walkable, live-past}
 use Rattle.marking.proofs.Replace.{settledIn, Replaces, settled, withStatus, Restates, restates}
 
 -- the view with the new value of each live setting
@@ -44,10 +44,6 @@ module _ (n : ℕ) (T : Tables) (e : lengthsFit n T ≡ true) (q : inForm n T �
     -- what is live past the changes from a position on
     pub live-at-end : Agree (isLive (liveIn T k live)) (liveAtEnd f (drop k (historyOf (decode T))))
     live-at-end = subst (λ (U : Tables). Agree (isLive (liveIn U k live)) (liveAtEnd f (drop k (historyOf (decode T))))) laid (live-past n (decode T) sound live f agree k)
-
-    -- the statuses of some changes with those from a position on marked
-    pub marked-from : (now : List Change) → length now ≡ length (decode T .changes) → changesAt now (drop k (decode T .order)) ≡ drop k (historyOf (decode T)) → markedIn T k live (statuses n now) ≡ statuses n (putAt (drop k (decode T .order)) (markLive f (drop k (historyOf (decode T)))) now)
-    marked-from now m p = subst (λ (U : Tables). markedIn U k live (statuses n now) ≡ statuses n (putAt (drop k (decode T .order)) (markLive f (drop k (historyOf (decode T)))) now)) laid (marked-past n (decode T) sound live f agree k now m p)
 
     -- the change at a position replaced, the later ones marked
     pub settled-tables : k < heldCount T → (new : Change) → Replaces new (getD (historyOf (decode T)) k blank) → (view : List ℤ) → settledIn T k new live view ≡ encode n (withHistory (decode T) (take k (historyOf (decode T)) ++ new ∷ markLive f (drop (suc k) (historyOf (decode T)))) view)

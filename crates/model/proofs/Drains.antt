@@ -1,4 +1,4 @@
--- A drain, on a history by rising timestamp: by rounds or by walks it is the same, it ends with every change Valid, and its turns go by rising timestamp.
+-- A drain, on a history by rising timestamp: it ends with every change Valid, its turns go by rising timestamp, and it is its first turn and the drain of what that leaves.
 use mathlib.Core.Path.{_≡_, refl, sym, ap, subst, _∙_}
 use mathlib.Core.Bool.{Bool, true, false}
 use mathlib.Core.List.{List, [], _∷_}
@@ -11,22 +11,10 @@ use Rattle.machine.specs.Settings.{Environment, after}
 use Rattle.model.specs.History.{New, Valid, Invalid, Lists, empty, runLists, Change, change, timestamp, History, allHold}
 use Rattle.model.specs.Figure.{Event, ran, stood, cleared, eventTimestamp, Step, idle, turned, lowestWaiting, roundAt, round}
 use Rattle.model.specs.Drain.{Drain, drainNone, drainMore, drainStep, drainFor, drainHistory}
-use Rattle.model.specs.Walk.{close, markLive, pass, retry, walk, walkFor}
+use Rattle.model.specs.Walk.{close, markLive, pass, retry, walk}
 use Rattle.model.specs.Sound.{Rising}
 use Rattle.model.proofs.Round.{WaitsAbove, rising-waits, round-walk}
 use Rattle.model.proofs.Keeps.{Keeps, StepKeeps, keeps-length, keeps-rising, round-keeps, drain-keeps}
-
--- a drain by rounds is a drain by walks
-pub drain-walk : (env : Environment) (h : History) (view : List ℤ) (b : ℕ) (k : ℕ) → Rising b h → drainFor k env h view ≡ walkFor k env h view
-unfolding drainFor walkFor
-drain-walk env h view b zero r = refl
-drain-walk env h view b (suc k) r =
-    go (λ h' view'. drain-walk env h' view' b k) (round env h view) (round-keeps env h view)
-    ∙ ap (drainStep (walkFor k env) (drainNone h view)) (round-walk env h view b r)
-  where
-    go : ((h' : History) (view' : List ℤ) → Rising b h' → drainFor k env h' view' ≡ walkFor k env h' view') → (s : Step) → StepKeeps h view s → drainStep (drainFor k env) (drainNone h view) s ≡ drainStep (walkFor k env) (drainNone h view) s
-    go ih idle q = refl
-    go ih (turned h' view' e) q = ap (drainMore e) (ih h' view' (keeps-rising b q r))
 
 -- ---- a turn
 

@@ -1,13 +1,12 @@
 -- A turn as one walk up the history that carries the settings along: what proofs use. Nobody has to believe it: on histories by rising timestamp it is the round of Figure (proofs/Figure).
 use mathlib.Core.Bool.{Bool, true, false, cond, not, _&&_}
 use mathlib.Core.List.{List, [], _∷_}
-use Prim.Native.Nat.{ℕ, zero, suc}
+use Prim.Native.Nat.{ℕ}
 use lib.Dec.{ltb}
 use lib.IntN.{ℤ}
 use Rattle.machine.specs.Settings.{Environment, valueIn, isSome, lookup, after}
 use Rattle.model.specs.History.{New, Valid, Invalid, Lists, empty, runLists, Change, change, timestamp, lists, History, allSettings, eqZ, allHold}
 use Rattle.model.specs.Figure.{Event, ran, stood, cleared, Step, idle, turned, readsAny, markUpdate}
-use Rattle.model.specs.Drain.{Drain, drainNone, drainStep}
 
 -- a setting changed if its values after the old and after the new lists differ
 abbrev pub differs : Lists → Lists → Environment → ℕ → Bool
@@ -51,11 +50,6 @@ walk env view (change t p New true l ∷ h) = settle env view t p true l empty h
 walk env view (change t p New false l ∷ h) = settle env view t p false l (runLists env p) h (ran t (runLists env p))
 walk env view (change t p Invalid true l ∷ h) = settle env view t p true l empty h (cleared t)
 walk env view (change t p Invalid false l ∷ h) = retry (allHold (l .reads) env) env view t p l h
-
--- turns by the walk until idle, at most so many
-unfoldable pub walkFor : ℕ → Environment → History → List ℤ → Drain
-walkFor zero env h view = drainNone h view
-walkFor (suc k) env h view = drainStep (walkFor k env) (drainNone h view) (walk env view h)
 
 -- the history with a change taken in: New, not withdrawn, lists empty, below the first change stamped above t
 abbrev pub insert : ℕ → List ℕ → History → History
