@@ -9,7 +9,7 @@ use mir.Val.{SFits, toZ}
 use mir.ValLaws.{toZ-pos}
 use Rattle.model.specs.declared.Answer.{Answer}
 use Rattle.model.specs.Tables.{Tables}
-use Rattle.model.specs.Calls.{answerNumber, Reply, reply, PlainReply, plainReply}
+use Rattle.model.specs.Calls.{answerNumber, Reply, reply, PackageReply, packageReply, PlainReply, plainReply}
 
 -- the sum of 4,294,967,296 and a refusal in 64 bits
 pub refusal-sum : {r : ℕ} → r < 2 ^ 8 → toZ w64 4294967296 +ℤ toZ w64 r ≡ pos (4294967296 + r)
@@ -26,3 +26,7 @@ numbered {A} number e h = (e ∙ ap (λ (c : Reply A). number (c .answer)) h, ap
 -- the same of the plain run and its settings
 pub plain-numbered : {a : Answer} {settings : List ℤ} {called : PlainReply} {r : ℕ} → r ≡ answerNumber a → plainReply a settings ≡ called → (r ≡ answerNumber (called .answer)) × (settings ≡ called .settings)
 plain-numbered e h = (e ∙ ap (λ (c : PlainReply). answerNumber (c .answer)) h, ap (λ (c : PlainReply). c .settings) h)
+
+-- the same of a package and its answer bytes
+pub package-numbered : {a : Answer} {T : Tables} {answers : List ℕ} {called : PackageReply} {r : ℕ} → r ≡ answerNumber a → packageReply a T answers ≡ called → (r ≡ answerNumber (called .answer)) × (T ≡ called .tables) × (answers ≡ called .answers)
+package-numbered e h = (e ∙ ap (λ (c : PackageReply). answerNumber (c .answer)) h, ap (λ (c : PackageReply). c .tables) h, ap (λ (c : PackageReply). c .answers) h)

@@ -1,6 +1,13 @@
 // The calls for programs in other languages, as a static library. Each answer is one number.
+use checker::drain;
+use checker::turn;
+use intake::take_in;
+use intake::take_in_package;
+use intake::withdraw;
 use model::Answer;
+use model::Drained;
 use model::Standing;
+use model::Turned;
 use model::Value;
 use queries::current_value;
 use queries::plain_run;
@@ -8,9 +15,11 @@ use queries::standing;
 use queries::value_as_of;
 use setup::set_up;
 ghost use mathlib.Core.Path.{_≡_};
+ghost use Prim.Native.Nat.{_<_};
+ghost use lib.ListN.{length};
 ghost use Rattle.model.specs.Tables.{tables};
-ghost use Rattle.model.specs.Calls.{answerNumber, setUp, currentValue, valueAsOf, standing, plainRun};
-ghost use Rattle.exports.specs.Numbers.{valueNumber, standingNumber};
+ghost use Rattle.model.specs.Calls.{answerNumber, setUp, takeIn, withdraw, takeInPackage, currentValue, valueAsOf, standing, plainRun};
+ghost use Rattle.exports.specs.Numbers.{valueNumber, standingNumber, turnedNumber, turnedTimestamp, drainedNumber, drainedTotals, sliceReply, turnNumbers, drainNumbers};
 
 // 0 done, 255 held already, else the refusal.
 fn answer_number(answer: Answer) -> u8
@@ -40,6 +49,45 @@ fn standing_number(standing: Standing) -> u32
     match standing {
         Standing::At(status, flag) => status as u32 + flag as u32 * 256,
         Standing::Refused(refusal) => 65536 + refusal as u32,
+    }
+}
+
+// 0 idle, 1 ran, 2 stood, 3 cleared, or 16 + the refusal; the slice gets the timestamp of the change whose turn it was.
+fn put_timestamp(answer: Turned, timestamp: &mut [u64]) -> u8
+    requires { ⌜ (length (now timestamp) ≡ 1) × (turnedNumber answer < 256) ⌝ }
+    ensures { λ r. ⌜ (r ≡ turnedNumber answer) × (now (timestamp .exit) ≡ turnedTimestamp answer (now (timestamp .entry))) ⌝ }
+{
+    match answer {
+        Turned::Idle => 0,
+        Turned::Ran(t) => {
+            timestamp[0] = t;
+            1
+        }
+        Turned::Stood(t) => {
+            timestamp[0] = t;
+            2
+        }
+        Turned::Cleared(t) => {
+            timestamp[0] = t;
+            3
+        }
+        Turned::Refused(refusal) => 16 + refusal,
+    }
+}
+
+// 0 done, else the refusal; the slice gets how many turns ran, stood and were cleared.
+fn put_totals(answer: Drained, totals: &mut [u64]) -> u8
+    requires { ⌜ length (now totals) ≡ 3 ⌝ }
+    ensures { λ r. ⌜ (r ≡ drainedNumber answer) × (now (totals .exit) ≡ drainedTotals answer (now (totals .entry))) ⌝ }
+{
+    match answer {
+        Drained::Counted(counts) => {
+            totals[0] = counts.ran as u64;
+            totals[1] = counts.stood as u64;
+            totals[2] = counts.cleared as u64;
+            0
+        }
+        Drained::Refused(refusal) => refusal,
     }
 }
 
@@ -81,6 +129,226 @@ pub extern "C" fn tolbezun_set_up(
         written,
         view,
     ))
+}
+
+// Taking in: the number of its answer.
+#[no_mangle]
+pub extern "C" fn tolbezun_take_in(
+    n: usize,
+    held: &mut [u16],
+    timestamps: &mut [u64],
+    order: &mut [u16],
+    status: &[u16],
+    withdrawn: &[u16],
+    lengths: &mut [u16],
+    programs: &mut [u8],
+    reads: &[u16],
+    writes: &[u16],
+    sources: &[u16],
+    seen: &[i32],
+    targets: &[u16],
+    written: &[i32],
+    view: &[i32],
+    timestamp: u64,
+    program: &[u8],
+) -> u8
+    ensures { λ r. ⌜ (let reply = takeIn n (tables (now (held .entry)) (now (timestamps .entry)) (now (order .entry)) (now (status .entry)) (now (withdrawn .entry)) (now (lengths .entry)) (now (programs .entry)) (now (reads .entry)) (now (writes .entry)) (now (sources .entry)) (now (seen .entry)) (now (targets .entry)) (now (written .entry)) (now (view .entry))) timestamp (now (program .entry)) in (r ≡ answerNumber (reply .answer)) × (tables (now (held .exit)) (now (timestamps .exit)) (now (order .exit)) (now (status .entry)) (now (withdrawn .entry)) (now (lengths .exit)) (now (programs .exit)) (now (reads .entry)) (now (writes .entry)) (now (sources .entry)) (now (seen .entry)) (now (targets .entry)) (now (written .entry)) (now (view .entry)) ≡ reply .tables)) ⌝ }
+{
+    answer_number(take_in(
+        n,
+        held,
+        timestamps,
+        order,
+        status,
+        withdrawn,
+        lengths,
+        programs,
+        reads,
+        writes,
+        sources,
+        seen,
+        targets,
+        written,
+        view,
+        timestamp,
+        program,
+    ))
+}
+
+// Withdrawing: the number of its answer.
+#[no_mangle]
+pub extern "C" fn tolbezun_withdraw(
+    n: usize,
+    held: &[u16],
+    timestamps: &[u64],
+    order: &[u16],
+    status: &mut [u16],
+    withdrawn: &mut [u16],
+    lengths: &[u16],
+    programs: &[u8],
+    reads: &[u16],
+    writes: &[u16],
+    sources: &[u16],
+    seen: &[i32],
+    targets: &[u16],
+    written: &[i32],
+    view: &[i32],
+    timestamp: u64,
+) -> u8
+    ensures { λ r. ⌜ (let reply = withdraw n (tables (now (held .entry)) (now (timestamps .entry)) (now (order .entry)) (now (status .entry)) (now (withdrawn .entry)) (now (lengths .entry)) (now (programs .entry)) (now (reads .entry)) (now (writes .entry)) (now (sources .entry)) (now (seen .entry)) (now (targets .entry)) (now (written .entry)) (now (view .entry))) timestamp in (r ≡ answerNumber (reply .answer)) × (tables (now (held .entry)) (now (timestamps .entry)) (now (order .entry)) (now (status .exit)) (now (withdrawn .exit)) (now (lengths .entry)) (now (programs .entry)) (now (reads .entry)) (now (writes .entry)) (now (sources .entry)) (now (seen .entry)) (now (targets .entry)) (now (written .entry)) (now (view .entry)) ≡ reply .tables)) ⌝ }
+{
+    answer_number(withdraw(
+        n,
+        held,
+        timestamps,
+        order,
+        status,
+        withdrawn,
+        lengths,
+        programs,
+        reads,
+        writes,
+        sources,
+        seen,
+        targets,
+        written,
+        view,
+        timestamp,
+    ))
+}
+
+// Taking in a package: the number of its answer.
+#[no_mangle]
+pub extern "C" fn tolbezun_take_in_package(
+    n: usize,
+    held: &mut [u16],
+    timestamps: &mut [u64],
+    order: &mut [u16],
+    status: &mut [u16],
+    withdrawn: &mut [u16],
+    lengths: &mut [u16],
+    programs: &mut [u8],
+    reads: &[u16],
+    writes: &[u16],
+    sources: &[u16],
+    seen: &[i32],
+    targets: &[u16],
+    written: &[i32],
+    view: &[i32],
+    bytes: &[u8],
+    answers: &mut [u8],
+) -> u8
+    ensures { λ r. ⌜ (let reply = takeInPackage n (tables (now (held .entry)) (now (timestamps .entry)) (now (order .entry)) (now (status .entry)) (now (withdrawn .entry)) (now (lengths .entry)) (now (programs .entry)) (now (reads .entry)) (now (writes .entry)) (now (sources .entry)) (now (seen .entry)) (now (targets .entry)) (now (written .entry)) (now (view .entry))) (now (bytes .entry)) (now (answers .entry)) in (r ≡ answerNumber (reply .answer)) × (tables (now (held .exit)) (now (timestamps .exit)) (now (order .exit)) (now (status .exit)) (now (withdrawn .exit)) (now (lengths .exit)) (now (programs .exit)) (now (reads .entry)) (now (writes .entry)) (now (sources .entry)) (now (seen .entry)) (now (targets .entry)) (now (written .entry)) (now (view .entry)) ≡ reply .tables) × (now (answers .exit) ≡ reply .answers)) ⌝ }
+{
+    answer_number(take_in_package(
+        n,
+        held,
+        timestamps,
+        order,
+        status,
+        withdrawn,
+        lengths,
+        programs,
+        reads,
+        writes,
+        sources,
+        seen,
+        targets,
+        written,
+        view,
+        bytes,
+        answers,
+    ))
+}
+
+// One turn: the number of its answer. `timestamp` has one entry, which gets the timestamp of the change whose turn it was.
+#[no_mangle]
+pub extern "C" fn tolbezun_turn(
+    n: usize,
+    held: &[u16],
+    timestamps: &[u64],
+    order: &[u16],
+    status: &mut [u16],
+    withdrawn: &[u16],
+    lengths: &[u16],
+    programs: &[u8],
+    reads: &mut [u16],
+    writes: &mut [u16],
+    sources: &mut [u16],
+    seen: &mut [i32],
+    targets: &mut [u16],
+    written: &mut [i32],
+    view: &mut [i32],
+    timestamp: &mut [u64],
+) -> u8
+    ensures { λ r. ⌜ sliceReply r (tables (now (held .entry)) (now (timestamps .entry)) (now (order .entry)) (now (status .exit)) (now (withdrawn .entry)) (now (lengths .entry)) (now (programs .entry)) (now (reads .exit)) (now (writes .exit)) (now (sources .exit)) (now (seen .exit)) (now (targets .exit)) (now (written .exit)) (now (view .exit))) (now (timestamp .exit)) ≡ turnNumbers n (tables (now (held .entry)) (now (timestamps .entry)) (now (order .entry)) (now (status .entry)) (now (withdrawn .entry)) (now (lengths .entry)) (now (programs .entry)) (now (reads .entry)) (now (writes .entry)) (now (sources .entry)) (now (seen .entry)) (now (targets .entry)) (now (written .entry)) (now (view .entry))) (now (timestamp .entry)) ⌝ }
+{
+    if timestamp.len() != 1 {
+        return 17;
+    }
+    let answer = turn(
+        n,
+        held,
+        timestamps,
+        order,
+        status,
+        withdrawn,
+        lengths,
+        programs,
+        reads,
+        writes,
+        sources,
+        seen,
+        targets,
+        written,
+        view,
+    );
+    put_timestamp(answer, timestamp)
+}
+
+// A drain: the number of its answer. `totals` has three entries, which get how many turns ran, stood and were cleared.
+#[no_mangle]
+pub extern "C" fn tolbezun_drain(
+    n: usize,
+    held: &[u16],
+    timestamps: &[u64],
+    order: &[u16],
+    status: &mut [u16],
+    withdrawn: &[u16],
+    lengths: &[u16],
+    programs: &[u8],
+    reads: &mut [u16],
+    writes: &mut [u16],
+    sources: &mut [u16],
+    seen: &mut [i32],
+    targets: &mut [u16],
+    written: &mut [i32],
+    view: &mut [i32],
+    totals: &mut [u64],
+) -> u8
+    ensures { λ r. ⌜ sliceReply r (tables (now (held .entry)) (now (timestamps .entry)) (now (order .entry)) (now (status .exit)) (now (withdrawn .entry)) (now (lengths .entry)) (now (programs .entry)) (now (reads .exit)) (now (writes .exit)) (now (sources .exit)) (now (seen .exit)) (now (targets .exit)) (now (written .exit)) (now (view .exit))) (now (totals .exit)) ≡ drainNumbers n (tables (now (held .entry)) (now (timestamps .entry)) (now (order .entry)) (now (status .entry)) (now (withdrawn .entry)) (now (lengths .entry)) (now (programs .entry)) (now (reads .entry)) (now (writes .entry)) (now (sources .entry)) (now (seen .entry)) (now (targets .entry)) (now (written .entry)) (now (view .entry))) (now (totals .entry)) ⌝ }
+{
+    if totals.len() != 3 {
+        return 1;
+    }
+    let answer = drain(
+        n,
+        held,
+        timestamps,
+        order,
+        status,
+        withdrawn,
+        lengths,
+        programs,
+        reads,
+        writes,
+        sources,
+        seen,
+        targets,
+        written,
+        view,
+    );
+    put_totals(answer, totals)
 }
 
 // The current value of a setting, or its refusal, as a number.

@@ -1,5 +1,7 @@
 //! Random programs, values and tables, each determined by a seed.
 
+pub mod packages;
+pub mod scripts;
 pub mod tables;
 
 use outside::program::{op, Instruction, INSTRUCTION_BYTES, MAX_INSTRUCTIONS, REGISTERS, SETTINGS};

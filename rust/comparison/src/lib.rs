@@ -1,20 +1,24 @@
 //! The proved library and the outside implementation, compared from outside.
 //!
-//! The tests run random and chosen programs through both interpreters, and make the calls of both
-//! on random and chosen tables. The programs `bench` and `bench_form` time the interpreters and the
-//! test of the tables' form:
+//! The tests run random and chosen programs through both interpreters, make the calls of both on
+//! random and chosen tables and in random lists, check demand 3 after each drain of such a list, and
+//! run the program `cabinet`. The programs `bench`, `bench_form` and `bench_calls` time the
+//! interpreters, the test of the tables' form, and the calls as the history grows:
 //!
 //! ```text
 //! cargo test --offline
 //! cargo run --release --offline --bin bench
 //! cargo run --release --offline --bin bench_form
+//! cargo run --release --offline --bin bench_calls
 //! ```
 
 #![warn(missing_docs)]
 
+pub mod both;
 pub mod generate;
 pub mod proved;
 pub mod reached;
+pub mod turns;
 
 /// Whether both implementations give the same lists and the same ending.
 pub fn agree(proved: &proved::Outcome, outside: &outside::program::Outcome) -> bool {

@@ -2,7 +2,7 @@
 //!
 //! Document 01, "Calls" and "Turned down, in checking order".
 
-use crate::program::{self, SETTINGS};
+use crate::program::{self, Malformed, SETTINGS};
 use crate::tables::{check_lengths, in_form, Status, Tables, INFINITY};
 
 /// Why a call is turned down. "A refusal gives its number alone and alters no lent slice."
@@ -12,12 +12,22 @@ pub enum Refusal {
     Length,
     /// "2. The tables are not in form."
     Form,
+    /// "3. The package breaks its layout or length."
+    Package,
     /// "4. The timestamp is 0 or 2^64 − 1; value as of allows 2^64 − 1."
     Timestamp,
     /// "5. The setting number is above 1,023."
     Setting,
+    /// 6 or 7, which are about the program alone.
+    Program(Malformed),
+    /// "8. The timestamp is held with another program."
+    OtherProgram,
+    /// "9. The held count equals N and the timestamp is not held."
+    Full,
     /// "10. The timestamp is not held (withdraw, standing)."
     NotHeld,
+    /// "11. The change is withdrawn already (withdraw)."
+    Withdrawn,
 }
 
 impl Refusal {
@@ -26,9 +36,14 @@ impl Refusal {
         match self {
             Self::Length => 1,
             Self::Form => 2,
+            Self::Package => 3,
             Self::Timestamp => 4,
             Self::Setting => 5,
+            Self::Program(malformed) => malformed.refusal(),
+            Self::OtherProgram => 8,
+            Self::Full => 9,
             Self::NotHeld => 10,
+            Self::Withdrawn => 11,
         }
     }
 }
@@ -80,13 +95,10 @@ pub fn value_as_of(
 /// "standing of a timestamp (status and flag)".
 pub fn standing(n: usize, tables: &Tables, timestamp: u64) -> Result<Standing, Refusal> {
     check(n, tables)?;
-    let valid = timestamp != 0 && timestamp != INFINITY;
-    refuse_unless(valid, Refusal::Timestamp)?;
-    let place = (0..tables.held_count())
-        .find(|&place| tables.timestamps[place] == timestamp)
-        .ok_or(Refusal::NotHeld)?;
+    check_timestamp(timestamp)?;
+    let place = tables.place_of(timestamp).ok_or(Refusal::NotHeld)?;
     Ok(Standing {
-        status: Status::from_number(tables.status[place]).expect("the tables are in form"),
+        status: tables.status(place),
         withdrawn: tables.withdrawn[place] != 0,
     })
 }
@@ -112,12 +124,18 @@ pub fn plain_run(n: usize, tables: &Tables, lent: &mut [i32]) -> Result<(), Refu
 }
 
 /// Refusals 1 and 2, as every call but set up tests them.
-fn check(n: usize, tables: &Tables) -> Result<(), Refusal> {
+pub(crate) fn check(n: usize, tables: &Tables) -> Result<(), Refusal> {
     refuse_unless(check_lengths(n, tables), Refusal::Length)?;
     refuse_unless(in_form(n, tables), Refusal::Form)
 }
 
-fn refuse_unless(condition: bool, refusal: Refusal) -> Result<(), Refusal> {
+/// Refusal 4, as every call but value as of tests it.
+pub(crate) fn check_timestamp(timestamp: u64) -> Result<(), Refusal> {
+    let valid = timestamp != 0 && timestamp != INFINITY;
+    refuse_unless(valid, Refusal::Timestamp)
+}
+
+pub(crate) fn refuse_unless(condition: bool, refusal: Refusal) -> Result<(), Refusal> {
     match condition {
         true => Ok(()),
         false => Err(refusal),

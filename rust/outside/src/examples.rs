@@ -1,6 +1,11 @@
-//! Tables for the tests.
+//! Tables, programs, packages and lists of calls for the tests.
 
-use crate::program::{op, Instruction};
+use crate::book::{self, turns_of_drain, Breach, Call, LoggedTurn};
+use crate::calls::Refusal;
+use crate::checker::{drain, turn, Turned};
+use crate::intake::{take_in, withdraw, Taken};
+use crate::package::{take_in_package, ALREADY_HELD, ANSWERS, DONE, ENTRY_BYTES};
+use crate::program::{op, Instruction, INSTRUCTION_BYTES};
 use crate::tables::{Tables, LIST_ENTRIES, PROGRAM_BYTES};
 
 pub const NEW: u16 = 0;
@@ -95,6 +100,142 @@ pub fn four_changes() -> Tables {
     tables
 }
 
+/// A list of calls, made one after the other on tables just set up.
+pub struct Script {
+    n: usize,
+    pub tables: Tables,
+    pub calls: Vec<Call>,
+}
+
+impl Script {
+    pub fn new(n: usize) -> Self {
+        Self {
+            n,
+            tables: Tables::new(n),
+            calls: Vec::new(),
+        }
+    }
+
+    /// Takes in a change, which must be answered done.
+    #[track_caller]
+    pub fn take_in(&mut self, timestamp: u64, program: &[Instruction]) {
+        assert_eq!(self.try_take_in(timestamp, program), DONE);
+    }
+
+    /// Takes in a change and returns the answer.
+    pub fn try_take_in(&mut self, timestamp: u64, program: &[Instruction]) -> u8 {
+        let program = assemble(program);
+        let answer = match take_in(self.n, &mut self.tables, timestamp, &program) {
+            Ok(Taken::Done) => DONE,
+            Ok(Taken::AlreadyHeld) => ALREADY_HELD,
+            Err(refusal) => refusal.number(),
+        };
+        self.calls.push(Call::TakeIn {
+            timestamp,
+            program,
+            answer,
+        });
+        answer
+    }
+
+    /// Withdraws a change, which must be answered done.
+    #[track_caller]
+    pub fn withdraw(&mut self, timestamp: u64) {
+        assert_eq!(self.try_withdraw(timestamp), DONE);
+    }
+
+    /// Withdraws a change and returns the answer.
+    pub fn try_withdraw(&mut self, timestamp: u64) -> u8 {
+        let withdrawn = withdraw(self.n, &mut self.tables, timestamp);
+        let answer = withdrawn.map_or_else(Refusal::number, |()| DONE);
+        self.calls.push(Call::Withdraw { timestamp, answer });
+        answer
+    }
+
+    /// Takes in a package and returns the answer.
+    pub fn take_in_package(&mut self, package: Vec<u8>) -> u8 {
+        let mut answers = vec![0; ANSWERS];
+        let taken = take_in_package(self.n, &mut self.tables, &package, &mut answers);
+        let answer = taken.map_or_else(Refusal::number, |()| DONE);
+        self.calls.push(Call::TakeInPackage {
+            package,
+            answers,
+            answer,
+        });
+        answer
+    }
+
+    /// Makes a turn and returns its timestamp and answer, or none for idle.
+    pub fn turn(&mut self) -> Option<(u64, Turned)> {
+        let turn = turn(self.n, &mut self.tables).expect("the tables are in form");
+        let logged = turn.map(|turn| LoggedTurn::new(turn, &self.tables));
+        self.calls.push(Call::Turn(logged));
+        turn.map(|turn| (turn.timestamp, turn.turned))
+    }
+
+    /// Drains, checks demand 3, and returns the timestamps and answers of the turns.
+    #[track_caller]
+    pub fn drain(&mut self) -> Vec<(u64, Turned)> {
+        let mut turned = self.tables.clone();
+        let turns = turns_of_drain(turned.held_count(), || {
+            let turn = turn(self.n, &mut turned).expect("the tables are in form");
+            turn.map(|turn| LoggedTurn::new(turn, &turned))
+        });
+        let answers = turns.iter().map(|logged| logged.turn);
+        let answers = answers.map(|turn| (turn.timestamp, turn.turned)).collect();
+        let totals = drain(self.n, &mut self.tables).expect("the tables are in form");
+        assert!(self.tables == turned, "its turns are single turns");
+        self.calls.push(Call::Drain(Some((totals, turns))));
+        assert_eq!(self.check(), Ok(()));
+        answers
+    }
+
+    /// Checks demand 3.
+    pub fn check(&self) -> Result<(), Breach> {
+        book::check(&self.calls, &self.tables)
+    }
+
+    /// The settings other than 0 in the view.
+    pub fn view(&self) -> Vec<(usize, i32)> {
+        let settings = self.tables.view.iter().copied().enumerate();
+        settings.filter(|&(_, value)| value != 0).collect()
+    }
+
+    /// The read list of a change.
+    pub fn reads(&self, timestamp: u64) -> Vec<(u16, i32)> {
+        let place = self.tables.place_of(timestamp).expect("it is held");
+        let reads = self.tables.read_list(place);
+        reads.map(|read| (read.setting, read.value)).collect()
+    }
+}
+
+/// The package whose entries have these timestamps, kinds and bodies.
+pub fn package(entries: &[(u64, u8, &[Instruction])]) -> Vec<u8> {
+    let count = entries.len() as u16;
+    let mut package = count.to_le_bytes().to_vec();
+    for (timestamp, kind, body) in entries {
+        package.extend(timestamp.to_le_bytes());
+        package.extend([*kind, body.len() as u8, 0, 0]);
+    }
+    for (_, _, body) in entries {
+        package.extend(assemble(body));
+    }
+    package
+}
+
+/// Document 01's package of 70 bytes: "20 (copy 34 to 50), 10 (set 34 to 7), withdrawal of 15".
+pub fn package_of_70_bytes() -> Vec<u8> {
+    let package = package(&[(20, 0, &copy(34, 50)), (10, 0, &set(34, 7)), (15, 1, &[])]);
+    assert_eq!(package.len(), 2 + 3 * ENTRY_BYTES + 4 * INSTRUCTION_BYTES);
+    assert_eq!(package.len(), 70);
+    package
+}
+
+/// The bytes of a program.
+pub fn assemble(program: &[Instruction]) -> Vec<u8> {
+    program.iter().flat_map(|i| i.to_bytes()).collect()
+}
+
 /// The program that sets a setting to a value.
 pub fn set(setting: i32, value: i32) -> Vec<Instruction> {
     vec![instruction(op::CONSTANT, value), write(setting)]
@@ -117,6 +258,25 @@ pub fn add(setting: i32, value: i32) -> Vec<Instruction> {
         ..instruction(op::CONSTANT, value)
     };
     vec![read(setting), constant, sum, write(setting)]
+}
+
+/// The program that takes from a setting and sets another to 1 if the result is negative.
+pub fn take(setting: i32, value: i32, flag: i32) -> Vec<Instruction> {
+    let skip_stop = instruction(op::SKIP_IF_NEGATIVE, 1);
+    let stop = instruction(op::STOP, 0);
+    [add(setting, -value), vec![skip_stop, stop], set(flag, 1)].concat()
+}
+
+/// The program that does the rest only if a setting is 0.
+pub fn if_zero(setting: i32, rest: &[Instruction]) -> Vec<Instruction> {
+    let skip_stop = instruction(op::SKIP_IF_ZERO, 1);
+    let stop = instruction(op::STOP, 0);
+    [&[read(setting), skip_stop, stop], rest].concat()
+}
+
+/// The program that writes the value of a setting to the setting with that number.
+pub fn write_named_by(setting: i32) -> Vec<Instruction> {
+    vec![read(setting), instruction(op::WRITE_INDEXED, 0)]
 }
 
 fn read(setting: i32) -> Instruction {

@@ -1,13 +1,19 @@
 //! The outside implementation of document 01.
 //!
-//! It is written from document 01 alone and shares no code and no tables with the proved library,
-//! which is compared with it. Quoted sentences in its comments are document 01's. What that
-//! document leaves open is read as `docs/DECISIONS.md` says.
+//! It is written from document 01, and source document 004 that it builds on, alone and shares no
+//! code and no tables with the proved library, which is compared with it. Quoted sentences in its
+//! comments are document 01's, unless they are said to be source document 004's. What these
+//! documents leave open is read as `docs/DECISIONS.md` says.
 
 #![forbid(unsafe_code)]
 #![warn(missing_docs)]
 
+pub mod book;
+pub mod cabinet;
 pub mod calls;
+pub mod checker;
+pub mod intake;
+pub mod package;
 pub mod program;
 pub mod tables;
 

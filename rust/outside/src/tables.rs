@@ -36,6 +36,15 @@ impl Status {
             _ => None,
         }
     }
+
+    /// The number of this status.
+    pub fn number(self) -> u16 {
+        match self {
+            Self::New => 0,
+            Self::Valid => 1,
+            Self::Invalid => 2,
+        }
+    }
 }
 
 /// The fourteen tables, of any lengths and with any contents. "by place, in order of arrival" are
@@ -99,24 +108,72 @@ impl Tables {
         usize::from(self.held[0])
     }
 
+    /// The place of a timestamp that tables in form hold.
+    pub fn place_of(&self, timestamp: u64) -> Option<usize> {
+        (0..self.held_count()).find(|&place| self.timestamps[place] == timestamp)
+    }
+
+    /// The status at a held place of tables in form.
+    pub fn status(&self, place: usize) -> Status {
+        Status::from_number(self.status[place]).expect("the tables are in form")
+    }
+
     /// The program at a held place of tables in form.
     pub fn program(&self, place: usize) -> &[u8] {
         let length = usize::from(self.lengths[place]);
         &self.program_bytes(place)[..INSTRUCTION_BYTES * length]
     }
 
+    /// The read list, with the values seen, at a held place of tables in form.
+    pub fn read_list(&self, place: usize) -> impl Iterator<Item = Access> + '_ {
+        list(place, &self.reads, &self.sources, &self.seen)
+    }
+
     /// The write list at a held place of tables in form.
     pub fn write_list(&self, place: usize) -> impl Iterator<Item = Access> + '_ {
-        let count = usize::from(self.writes[place]);
-        let targets = &entries(&self.targets, place)[..count];
-        let written = &entries(&self.written, place)[..count];
-        let pairs = targets.iter().zip(written);
-        pairs.map(|(&setting, &value)| Access { setting, value })
+        list(place, &self.writes, &self.targets, &self.written)
+    }
+
+    /// Replaces both lists at a place: "Unused slots hold 0."
+    pub(crate) fn replace_lists(&mut self, place: usize, reads: &[Access], writes: &[Access]) {
+        let (counts, settings, values) = (&mut self.reads, &mut self.sources, &mut self.seen);
+        replace_list(place, counts, settings, values, reads);
+        let (counts, settings, values) = (&mut self.writes, &mut self.targets, &mut self.written);
+        replace_list(place, counts, settings, values, writes);
     }
 
     /// All bytes for the program at a place, used or not.
     fn program_bytes(&self, place: usize) -> &[u8] {
         &self.programs[PROGRAM_BYTES * place..][..PROGRAM_BYTES]
+    }
+}
+
+/// The list at a place, by the tables of counts, settings and values that hold it.
+fn list<'a>(
+    place: usize,
+    counts: &[u16],
+    settings: &'a [u16],
+    values: &'a [i32],
+) -> impl Iterator<Item = Access> + 'a {
+    let count = usize::from(counts[place]);
+    let settings = &entries(settings, place)[..count];
+    let pairs = settings.iter().zip(entries(values, place));
+    pairs.map(|(&setting, &value)| Access { setting, value })
+}
+
+/// Replaces the list at a place in the tables that hold it.
+fn replace_list(
+    place: usize,
+    counts: &mut [u16],
+    settings: &mut [u16],
+    values: &mut [i32],
+    list: &[Access],
+) {
+    counts[place] = list.len() as u16;
+    for index in 0..LIST_ENTRIES {
+        let entry = list.get(index).copied().unwrap_or_default();
+        settings[LIST_ENTRIES * place + index] = entry.setting;
+        values[LIST_ENTRIES * place + index] = entry.value;
     }
 }
 

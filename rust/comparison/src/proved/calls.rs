@@ -89,6 +89,8 @@ macro_rules! call {
     };
 }
 
+pub mod altering;
+
 declare! {
     /// 0 for done, else the refusal.
     fn tolbezun_set_up(tables: *mut) -> u8;

@@ -34,9 +34,15 @@ fn refusals_have_their_numbers() {
     let refusals = [
         (Refusal::Length, 1),
         (Refusal::Form, 2),
+        (Refusal::Package, 3),
         (Refusal::Timestamp, 4),
         (Refusal::Setting, 5),
+        (Refusal::Program(Malformed::Length), 6),
+        (Refusal::Program(Malformed::Instruction), 7),
+        (Refusal::OtherProgram, 8),
+        (Refusal::Full, 9),
         (Refusal::NotHeld, 10),
+        (Refusal::Withdrawn, 11),
     ];
     for (refusal, number) in refusals {
         assert_eq!(refusal.number(), number);

@@ -1,0 +1,179 @@
+//! Random packages: of the layout, and with a single breach of it.
+
+use super::{damage, Random, Style};
+use outside::package::{Entry, ENTRY_BYTES, MAX_BYTES, MAX_ENTRIES};
+use outside::program::{INSTRUCTION_BYTES, MAX_INSTRUCTIONS};
+use outside::tables::INFINITY;
+
+/// The bytes of a package with these entries. Its length is not tested.
+pub fn lay_out(entries: &[Entry]) -> Vec<u8> {
+    let mut package = (entries.len() as u16).to_le_bytes().to_vec();
+    for entry in entries {
+        let (timestamp, kind, bytes) = match entry {
+            Entry::Change { timestamp, program } => (timestamp, 0, program.len()),
+            Entry::Withdrawal { timestamp } => (timestamp, 1, 0),
+        };
+        package.extend(timestamp.to_le_bytes());
+        package.extend([kind, (bytes / INSTRUCTION_BYTES) as u8, 0, 0]);
+    }
+    for entry in entries {
+        if let Entry::Change { program, .. } = entry {
+            package.extend(program);
+        }
+    }
+    package
+}
+
+/// Entries of a package that keeps the layout, for tables that hold these timestamps: many entries
+/// name the same timestamp.
+pub fn entries(random: &mut Random, held: &[u64]) -> Vec<Entry> {
+    let count = match random.below(16) {
+        0 => MAX_ENTRIES,
+        1 => random.below(MAX_ENTRIES + 1),
+        _ => random.below(24),
+    };
+    let longest = match count {
+        0..24 => random.pick(&[2, 8, MAX_INSTRUCTIONS]),
+        _ => 4,
+    };
+    let mut entries: Vec<Entry> = Vec::with_capacity(count);
+    for _ in 0..count {
+        let timestamp = match random.below(24) {
+            0 => random.pick(&[0, INFINITY]),
+            1 => random.bits(),
+            2..8 if !held.is_empty() => random.pick(held),
+            _ => 1 + random.below(2 * count) as u64,
+        };
+        entries.push(match random.below(12) {
+            0..3 => Entry::Withdrawal { timestamp },
+            3 if !entries.is_empty() => entries[random.below(entries.len())].clone(),
+            _ => {
+                let length = random.below(longest + 1);
+                let mut program = super::program(random, &Style::FEW_SETTINGS, length);
+                if random.below(6) == 0 {
+                    damage(random, &mut program);
+                    program.resize(INSTRUCTION_BYTES * length, 0);
+                }
+                Entry::Change { timestamp, program }
+            }
+        });
+    }
+    entries
+}
+
+/// Contents for a lent slice of answers.
+pub fn answers(random: &mut Random, length: usize) -> Vec<u8> {
+    (0..length).map(|_| random.bits() as u8).collect()
+}
+
+/// A single thing for which a package breaks its layout or length.
+#[derive(Clone, Copy, Debug, PartialEq, Eq, PartialOrd, Ord)]
+pub enum Breach {
+    /// It ends before the last byte.
+    Short,
+    /// Bytes follow.
+    Long,
+    /// The count counts another entry.
+    CountTooHigh,
+    /// The count leaves an entry out.
+    CountTooLow,
+    /// A kind is above 1.
+    Kind,
+    /// An instruction count is above 32, with as many instructions.
+    Above32,
+    /// An instruction count is another, 0 to 32.
+    OtherCount,
+    /// A withdrawal has instructions.
+    Withdrawal,
+    /// One of the two bytes is not 0.
+    FirstZero,
+    /// The other is not.
+    SecondZero,
+    /// All is right but the length, which is above 65,535.
+    Above65535,
+    /// All is right but the count, which is above 512.
+    Above512,
+}
+
+impl Breach {
+    /// All breaches.
+    pub const ALL: [Self; 12] = [
+        Self::Short,
+        Self::Long,
+        Self::CountTooHigh,
+        Self::CountTooLow,
+        Self::Kind,
+        Self::Above32,
+        Self::OtherCount,
+        Self::Withdrawal,
+        Self::FirstZero,
+        Self::SecondZero,
+        Self::Above65535,
+        Self::Above512,
+    ];
+
+    /// Makes this breach in a package that keeps the layout, or returns none where it has no entry
+    /// for it.
+    pub fn make(self, random: &mut Random, package: &mut Vec<u8>) -> Option<()> {
+        let count = usize::from(u16::from_le_bytes([package[0], package[1]]));
+        let entry = (count > 0).then(|| 2 + ENTRY_BYTES * random.below(count));
+        let low_byte_first = |count: usize| (count as u16).to_le_bytes();
+        match self {
+            Self::Short => {
+                let missing = random.pick(&[1, 1, 2, INSTRUCTION_BYTES, ENTRY_BYTES]);
+                package.truncate(package.len().saturating_sub(missing));
+            }
+            Self::Long => {
+                let more = random.pick(&[1, 1, 2, INSTRUCTION_BYTES, ENTRY_BYTES]);
+                package.resize(package.len() + more, 0);
+            }
+            Self::CountTooHigh => package[..2].copy_from_slice(&low_byte_first(count + 1)),
+            Self::CountTooLow => {
+                entry?;
+                package[..2].copy_from_slice(&low_byte_first(count - 1));
+            }
+            Self::Kind => package[entry? + 8] = 2 + random.below(254) as u8,
+            Self::Above32 => {
+                let above = MAX_INSTRUCTIONS + 1 + random.below(4);
+                replace_body(package, entry?, 0, above);
+            }
+            Self::OtherCount => {
+                let instructions = &mut package[entry? + 9];
+                *instructions = (*instructions + 1 + random.below(32) as u8) % 33;
+            }
+            Self::Withdrawal => {
+                replace_body(package, entry?, 1, 1 + random.below(MAX_INSTRUCTIONS));
+            }
+            Self::FirstZero => package[entry? + 10] = 1 << random.below(8),
+            Self::SecondZero => package[entry? + 11] = 1 << random.below(8),
+            Self::Above65535 => {
+                let program = vec![0; INSTRUCTION_BYTES * MAX_INSTRUCTIONS];
+                let change = |timestamp| Entry::Change {
+                    timestamp,
+                    program: program.clone(),
+                };
+                let in_entry = ENTRY_BYTES + program.len();
+                let entries: Vec<Entry> = (1..=(MAX_BYTES / in_entry + 1) as u64)
+                    .map(change)
+                    .collect();
+                *package = lay_out(&entries);
+            }
+            Self::Above512 => {
+                let withdrawal = |timestamp| Entry::Withdrawal { timestamp };
+                let count = (MAX_ENTRIES + 1 + random.below(4)) as u64;
+                let entries: Vec<Entry> = (1..=count).map(withdrawal).collect();
+                *package = lay_out(&entries);
+            }
+        }
+        Some(())
+    }
+}
+
+/// Gives an entry this kind and so many instructions, and the package the length that fits.
+fn replace_body(package: &mut Vec<u8>, entry: usize, kind: u8, instructions: usize) {
+    let old = usize::from(package[entry + 9]);
+    let others = package.len() - INSTRUCTION_BYTES * old;
+    package.resize(others + INSTRUCTION_BYTES * instructions, 0);
+    package[entry + 8] = kind;
+    package[entry + 9] = instructions as u8;
+}

@@ -1,0 +1,332 @@
+//! Random lists of calls, and tables, whose changes read and write the same few settings.
+
+use super::packages::{self, lay_out, Breach};
+use super::{damage, tables, Random, Settings, EXTREMES};
+use outside::package::{Entry, ANSWERS};
+use outside::program::{op, Instruction, INSTRUCTION_BYTES, MAX_INSTRUCTIONS, SETTINGS};
+use outside::tables::{Status, Tables, INFINITY, LIST_ENTRIES, PROGRAM_BYTES};
+
+/// A call that may alter the tables, with its arguments besides N and the tables.
+#[derive(Clone, Debug)]
+#[allow(missing_docs)]
+pub enum Call {
+    TakeIn {
+        timestamp: u64,
+        program: Vec<u8>,
+    },
+    Withdraw {
+        timestamp: u64,
+    },
+    /// `answers` is the lent slice.
+    TakeInPackage {
+        package: Vec<u8>,
+        answers: Vec<u8>,
+    },
+    Turn,
+    Drain,
+}
+
+/// What the calls of a list are made of: few settings, few timestamps, and what was sent before.
+pub struct Source {
+    settings: Settings,
+    timestamps: Vec<u64>,
+    sent: Vec<(u64, Vec<u8>)>,
+}
+
+impl Source {
+    /// A source of calls for tables of capacity `n`.
+    pub fn new(random: &mut Random, n: usize) -> Self {
+        let count = 4 + random.below(3) * random.below(3);
+        let settings = match random.below(2) {
+            // Small values name these settings.
+            0 => Settings {
+                first: 0,
+                step: 1,
+                count,
+            },
+            _ => Settings::new(random, count),
+        };
+        let count = 2 * n as u64 + 4;
+        let (first, step) = random.pick(&[
+            (1, 1),
+            (250, 1),
+            ((1 << 32) - 10, 1),
+            (INFINITY - count, 1),
+            (1, INFINITY / count),
+        ]);
+        Self {
+            settings,
+            timestamps: (0..count).map(|index| first + step * index).collect(),
+            sent: Vec::new(),
+        }
+    }
+
+    /// A setting to ask for: most often one that the changes name.
+    pub fn setting(&self, random: &mut Random) -> usize {
+        match random.below(16) {
+            0 => random.pick(&[SETTINGS, 65_536, usize::MAX]),
+            1 => random.below(SETTINGS),
+            _ => self.settings.pick(random) as usize,
+        }
+    }
+
+    /// A timestamp to ask for or to withdraw: most often one that was sent, often the last.
+    pub fn timestamp(&self, random: &mut Random) -> u64 {
+        match (random.below(16), self.sent.last()) {
+            (0, _) => random.pick(&[0, INFINITY]),
+            (1 | 2, _) | (_, None) => random.pick(&self.timestamps),
+            (3..8, Some((timestamp, _))) => *timestamp,
+            _ => self.sent[random.below(self.sent.len())].0,
+        }
+    }
+
+    /// The next call on these tables, which must be in form.
+    pub fn call(&mut self, random: &mut Random, tables: &Tables) -> Call {
+        let held = 0..tables.held_count();
+        let waiting = held
+            .clone()
+            .filter(|&place| tables.status(place) != Status::Valid);
+        let waiting: Vec<u64> = waiting.map(|place| tables.timestamps[place]).collect();
+        let marked = held
+            .into_iter()
+            .any(|place| tables.status(place) == Status::Invalid);
+        if let (true, 0, Some((timestamp, _))) = (marked, random.below(8), self.sent.last()) {
+            // Where its writes have marked a change, that change will stand.
+            let timestamp = *timestamp;
+            return Call::Withdraw { timestamp };
+        }
+        // Most often a turn where one is due, so that changes arrive and go between single turns.
+        let kinds = match waiting.is_empty() {
+            true => 11,
+            false => 18,
+        };
+        match random.below(kinds) {
+            0..6 => {
+                let (timestamp, program) = self.change(random);
+                Call::TakeIn { timestamp, program }
+            }
+            6 => self.package(random),
+            7 | 8 => Call::Withdraw {
+                timestamp: match random.below(3) {
+                    0 if !waiting.is_empty() => random.pick(&waiting),
+                    _ => self.timestamp(random),
+                },
+            },
+            9 => Call::Drain,
+            _ => Call::Turn,
+        }
+    }
+
+    /// A change to take in: most often one that was not sent.
+    fn change(&mut self, random: &mut Random) -> (u64, Vec<u8>) {
+        let mut program = self.program(random);
+        match random.below(16) {
+            0 | 1 if !self.sent.is_empty() => {
+                return self.sent[random.below(self.sent.len())].clone();
+            }
+            2 => return (self.timestamp(random), program),
+            3 => {
+                damage(random, &mut program);
+                return (self.timestamp(random), program);
+            }
+            _ => {}
+        }
+        let unsent: Vec<u64> = self
+            .timestamps
+            .iter()
+            .copied()
+            .filter(|timestamp| self.sent.iter().all(|(sent, _)| sent != timestamp))
+            .collect();
+        if unsent.is_empty() {
+            return (self.timestamp(random), program);
+        }
+        let timestamp = random.pick(&unsent);
+        self.sent.push((timestamp, program.clone()));
+        (timestamp, program)
+    }
+
+    /// A package of few entries: most often one that keeps the layout.
+    fn package(&mut self, random: &mut Random) -> Call {
+        let mut entries = Vec::new();
+        for _ in 0..random.below(7) {
+            entries.push(match random.below(3) {
+                0 => Entry::Withdrawal {
+                    timestamp: self.timestamp(random),
+                },
+                _ => {
+                    let (timestamp, mut program) = self.change(random);
+                    // A package has whole instructions, and at most 32 for a change.
+                    let whole = program.len() / INSTRUCTION_BYTES;
+                    program.truncate(INSTRUCTION_BYTES * whole.min(MAX_INSTRUCTIONS));
+                    Entry::Change { timestamp, program }
+                }
+            });
+        }
+        let mut package = lay_out(&entries);
+        if random.below(8) == 0 {
+            let breach = random.pick(&Breach::ALL);
+            breach.make(random, &mut package);
+        }
+        let length = match random.below(24) {
+            0 => random.pick(&[0, ANSWERS - 1, ANSWERS + 1]),
+            _ => ANSWERS,
+        };
+        Call::TakeInPackage {
+            package,
+            answers: packages::answers(random, length),
+        }
+    }
+
+    /// A well formed program.
+    pub fn program(&self, random: &mut Random) -> Vec<u8> {
+        let mut program: Vec<Instruction> = Vec::new();
+        let blocks = match random.below(16) {
+            0 => 0,
+            _ => 1 + random.below(3),
+        };
+        for _ in 0..blocks {
+            let block = self.block(random);
+            let n = block.len() as i32;
+            match random.below(24) {
+                // The block is carried out or not, as a setting says.
+                0..8 => {
+                    let a = register(random);
+                    program.push(with_number(op::READ, a, self.settings.pick(random)));
+                    program.push(Instruction {
+                        op: random.pick(&[op::SKIP_IF_ZERO, op::SKIP_IF_NEGATIVE]),
+                        b: a,
+                        n,
+                        ..Instruction::default()
+                    });
+                }
+                // It is not carried out, or all ends before it.
+                8 => program.push(with_number(op::SKIP, 0, n)),
+                9 => program.push(with_number(op::STOP, 0, 0)),
+                _ => {}
+            }
+            program.extend(block);
+        }
+        program.iter().flat_map(|i| i.to_bytes()).collect()
+    }
+
+    /// A few instructions that read or write.
+    fn block(&self, random: &mut Random) -> Vec<Instruction> {
+        let (x, y) = (self.settings.pick(random), self.settings.pick(random));
+        let (a, b) = (register(random), register(random));
+        let constant = with_number(op::CONSTANT, b, self.value(random));
+        let by_register = |op, a, b| Instruction {
+            op,
+            a,
+            b,
+            ..Instruction::default()
+        };
+        match random.below(8) {
+            // A setting is set, copied, changed.
+            0 | 1 => vec![constant, with_number(op::WRITE, b, x)],
+            2 => vec![with_number(op::READ, a, x), with_number(op::WRITE, a, y)],
+            3 | 4 => {
+                let op = random.pick(&[op::ADD, op::SUBTRACT, op::XOR, op::AND]);
+                let changed = Instruction {
+                    c: b,
+                    ..by_register(op, a, a)
+                };
+                let target = random.pick(&[x, x, y]);
+                vec![
+                    with_number(op::READ, a, x),
+                    constant,
+                    changed,
+                    with_number(op::WRITE, a, target),
+                ]
+            }
+            // A setting names the setting that is read, or written.
+            5 => vec![
+                with_number(op::READ, a, x),
+                by_register(op::READ_INDEXED, b, a),
+                with_number(op::WRITE, b, y),
+            ],
+            6 => vec![
+                with_number(op::READ, a, x),
+                constant,
+                by_register(op::WRITE_INDEXED, b, a),
+            ],
+            // A setting is only read.
+            _ => vec![with_number(op::READ, a, x)],
+        }
+    }
+
+    /// A value that a change writes: most often small, so that many are equal.
+    fn value(&self, random: &mut Random) -> i32 {
+        match random.below(12) {
+            0 => random.pick(&EXTREMES),
+            1 | 2 => self.settings.pick(random),
+            3 => -1,
+            _ => random.below(2) as i32,
+        }
+    }
+
+    /// Tables in form that hold so many changes, with programs and lists made of this. Calls need
+    /// not reach them: nothing ties a change's lists to its program, or the view to the lists.
+    pub fn tables(&self, random: &mut Random, n: usize, held: usize) -> Tables {
+        let mut tables = tables::in_form(random, n, held);
+        for place in 0..held {
+            tables.status[place] = random.pick(&[0, 1, 1, 1, 2, 2]);
+            tables.withdrawn[place] = random.pick(&[0, 0, 0, 0, 1]);
+            let program = self.program(random);
+            tables.lengths[place] = (program.len() / INSTRUCTION_BYTES) as u16;
+            let bytes = &mut tables.programs[PROGRAM_BYTES * place..][..PROGRAM_BYTES];
+            bytes.fill(0);
+            bytes[..program.len()].copy_from_slice(&program);
+            let longest = match tables.status[place] {
+                0 => 0,
+                _ => 4,
+            };
+            let slots = LIST_ENTRIES * place..LIST_ENTRIES * (place + 1);
+            let (settings, values) = (&mut tables.sources, &mut tables.seen);
+            let (settings, values) = (&mut settings[slots.clone()], &mut values[slots.clone()]);
+            tables.reads[place] = self.put_list(random, longest, settings, values);
+            let (settings, values) = (&mut tables.targets, &mut tables.written);
+            let (settings, values) = (&mut settings[slots.clone()], &mut values[slots]);
+            tables.writes[place] = self.put_list(random, longest, settings, values);
+        }
+        for value in &mut tables.view {
+            *value = random.below(3) as i32;
+        }
+        tables
+    }
+
+    /// Replaces a list by one of at most so many entries and returns its length.
+    fn put_list(
+        &self,
+        random: &mut Random,
+        longest: usize,
+        settings: &mut [u16],
+        values: &mut [i32],
+    ) -> u16 {
+        settings.fill(0);
+        values.fill(0);
+        let mut count = 0;
+        for _ in 0..random.below(longest + 1) {
+            let setting = self.settings.pick(random) as u16;
+            if !settings[..count].contains(&setting) {
+                settings[count] = setting;
+                values[count] = random.below(2) as i32;
+                count += 1;
+            }
+        }
+        count as u16
+    }
+}
+
+/// An instruction with a register and a number.
+fn with_number(op: u8, a: u8, n: i32) -> Instruction {
+    Instruction {
+        op,
+        a,
+        n,
+        ..Instruction::default()
+    }
+}
+
+fn register(random: &mut Random) -> u8 {
+    random.below(3) as u8
+}

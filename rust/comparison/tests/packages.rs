@@ -1,0 +1,239 @@
+//! The proved taking in of packages against the outside implementation.
+
+use comparison::both::Both;
+use comparison::generate::packages::{self, lay_out, Breach};
+use comparison::generate::{self, Random};
+use comparison::reached::Reached;
+use outside::package::{
+    entries, Entry, ALREADY_HELD, ANSWERS, DONE, ENTRY_BYTES, MAX_BYTES, MAX_ENTRIES,
+};
+use outside::program::{INSTRUCTION_BYTES, MAX_INSTRUCTIONS};
+use outside::tables::{Tables, INFINITY};
+
+/// How many random packages are taken in.
+const PACKAGES: usize = 4_000;
+
+/// How many packages are broken for each breach.
+const BROKEN: usize = 200;
+
+/// How many inputs are random bytes.
+const RANDOM_BYTES: usize = 4_000;
+
+/// What the tests with random packages are to reach.
+#[derive(Clone, Copy, Debug, PartialEq, Eq, PartialOrd, Ord)]
+enum Event {
+    /// A package of no entries, of 1 to 511, and of 512.
+    Empty,
+    Some,
+    All512,
+    ChangeAnswered(u8),
+    WithdrawalAnswered(u8),
+    /// A change that an earlier entry of the same package withdraws, or takes in.
+    WithdrawnInPackage,
+    HeldInPackage,
+    Broken(Breach),
+    RandomGood,
+    RandomBad,
+}
+
+/// Takes in a package and returns the answers, or the refusal.
+fn take_in(random: &mut Random, both: &mut Both, package: &[u8]) -> Result<Vec<u8>, u8> {
+    let mut answers = packages::answers(random, ANSWERS);
+    both.take_in_package(package, &mut answers)
+        .map(|()| answers)
+}
+
+/// A capacity: small ones, so that tables are often full, and one that takes in every package.
+fn capacity(random: &mut Random) -> usize {
+    match random.below(8) {
+        0 => MAX_ENTRIES,
+        1 => 128,
+        _ => 1 + random.below(24),
+    }
+}
+
+#[test]
+fn random_packages_have_the_same_answers() {
+    let random = &mut Random::new(generate::seed());
+    let mut reached = Reached::default();
+    for _ in 0..PACKAGES {
+        let n = capacity(random);
+        let mut both = Both::set_up(n);
+        for _ in 0..3 {
+            let held = both.tables().timestamps[..both.tables().held_count()].to_vec();
+            let entries = packages::entries(random, &held);
+            let package = lay_out(&entries);
+            let answers = take_in(random, &mut both, &package).expect("the layout is right");
+            reached.count(match entries.len() {
+                0 => Event::Empty,
+                MAX_ENTRIES => Event::All512,
+                _ => Event::Some,
+            });
+            for (index, (entry, &answer)) in entries.iter().zip(&answers).enumerate() {
+                let done_before = |done: &Entry| {
+                    let earlier = entries[..index].iter().zip(&answers);
+                    let mut earlier = earlier.filter(|(_, &answer)| answer == DONE);
+                    earlier.any(|(earlier, _)| earlier == done)
+                };
+                match entry {
+                    Entry::Change { .. } => {
+                        reached.count(Event::ChangeAnswered(answer));
+                        let held = answer == ALREADY_HELD && done_before(entry);
+                        reached.count_if(held, Event::HeldInPackage);
+                    }
+                    Entry::Withdrawal { .. } => {
+                        reached.count(Event::WithdrawalAnswered(answer));
+                        let withdrawn = answer == 11 && done_before(entry);
+                        reached.count_if(withdrawn, Event::WithdrawnInPackage);
+                    }
+                }
+            }
+            if random.below(3) == 0 {
+                assert!(both.drain().is_ok());
+            }
+        }
+    }
+
+    reached.print();
+    for event in [
+        Event::Empty,
+        Event::Some,
+        Event::All512,
+        Event::HeldInPackage,
+        Event::WithdrawnInPackage,
+    ] {
+        reached.assert_at_least(PACKAGES / 20, event);
+    }
+    for answer in [DONE, ALREADY_HELD, 4, 7, 8, 9] {
+        reached.assert_at_least(PACKAGES / 20, Event::ChangeAnswered(answer));
+    }
+    for answer in [DONE, 4, 10, 11] {
+        reached.assert_at_least(PACKAGES / 20, Event::WithdrawalAnswered(answer));
+    }
+}
+
+#[test]
+fn every_breach_of_layout_is_refused() {
+    let random = &mut Random::new(generate::seed());
+    let mut reached = Reached::default();
+    for breach in Breach::ALL {
+        let mut broken = 0;
+        while broken < BROKEN {
+            let mut both = Both::set_up(1 + random.below(16));
+            let entries = packages::entries(random, &[]);
+            let mut package = lay_out(&entries);
+            if breach.make(random, &mut package).is_some() {
+                let answer = take_in(random, &mut both, &package);
+                assert_eq!(answer, Err(3), "{breach:?} in {package:?}");
+                reached.count(Event::Broken(breach));
+                broken += 1;
+            }
+        }
+    }
+    reached.print();
+    for breach in Breach::ALL {
+        reached.assert_at_least(BROKEN, Event::Broken(breach));
+    }
+}
+
+/// Bytes that are most often 0, 1 or 2, so that some of them are packages.
+#[test]
+fn random_bytes_have_the_same_answers() {
+    let random = &mut Random::new(generate::seed());
+    let mut reached = Reached::default();
+    for _ in 0..RANDOM_BYTES {
+        let length = random.pick(&[0, 1, 2, 3, 13, 14, 15, 22, 26, 34]);
+        let most = random.pick(&[1, 2, 3, 256]);
+        let mut bytes: Vec<u8> = (0..length).map(|_| random.below(most) as u8).collect();
+        if length > 2 && random.below(2) == 0 {
+            bytes[..2].copy_from_slice(&[((length - 2) / ENTRY_BYTES) as u8, 0]);
+        }
+        let answer = take_in(random, &mut Both::set_up(4), &bytes);
+        reached.count(match answer {
+            Ok(_) => Event::RandomGood,
+            Err(_) => Event::RandomBad,
+        });
+    }
+    reached.print();
+    reached.assert_at_least(RANDOM_BYTES / 20, Event::RandomGood);
+    reached.assert_at_least(RANDOM_BYTES / 4, Event::RandomBad);
+}
+
+/// A package of so many changes with the instructions shared out from the first on.
+fn sized(count: usize, instructions: usize) -> Vec<u8> {
+    let change = |index: usize| {
+        let rest = instructions.saturating_sub(MAX_INSTRUCTIONS * index);
+        Entry::Change {
+            timestamp: 1 + index as u64,
+            program: vec![0; INSTRUCTION_BYTES * rest.min(MAX_INSTRUCTIONS)],
+        }
+    };
+    lay_out(&(0..count).map(change).collect::<Vec<_>>())
+}
+
+#[test]
+fn packages_at_the_bounds_have_the_same_answers() {
+    let random = &mut Random::new(generate::seed());
+    // 2 + 12 × 245 + 8 × 7,824 = 65,534.
+    let longest = sized(245, 7_824);
+    assert_eq!(longest.len(), MAX_BYTES - 1);
+    let mut packages = vec![
+        longest.clone(),
+        sized(245, 7_825),
+        sized(MAX_ENTRIES + 1, 0),
+    ];
+    for length in [MAX_BYTES - 2, MAX_BYTES, MAX_BYTES + 1, 2 * MAX_BYTES] {
+        let mut other = longest.clone();
+        other.resize(length, 0);
+        packages.push(other);
+    }
+    for count in [0, 1, 255, 256, 257, MAX_ENTRIES - 1, MAX_ENTRIES] {
+        let good = sized(count, 3.min(MAX_INSTRUCTIONS * count));
+        packages.push(good[..good.len() - 1].to_vec());
+        packages.push([&good[..], &[0]].concat());
+        packages.push(good);
+    }
+    packages.extend([vec![], vec![0], vec![1], vec![0, 0], vec![0, 0, 0]]);
+    let mut good = 0;
+    for package in packages {
+        let expected = entries(&package).map(|entries| entries.len());
+        good += usize::from(expected.is_some());
+        let mut both = Both::set_up(MAX_ENTRIES);
+        match take_in(random, &mut both, &package) {
+            Ok(_) => assert_eq!(expected, Some(both.tables().held_count())),
+            Err(refusal) => assert_eq!((expected, refusal), (None, 3)),
+        }
+    }
+    assert_eq!(good, 1 + 7 + 1);
+}
+
+/// The byte at each place of a package set to each of these.
+#[test]
+fn every_byte_changed_has_the_same_answers() {
+    let random = &mut Random::new(generate::seed());
+    let entries = [
+        Entry::Change {
+            timestamp: 20,
+            program: vec![0; 16],
+        },
+        Entry::Withdrawal { timestamp: 15 },
+        Entry::Change {
+            timestamp: INFINITY - 1,
+            program: vec![0; 8],
+        },
+        Entry::Change {
+            timestamp: 1,
+            program: vec![],
+        },
+    ];
+    let package = lay_out(&entries);
+    for index in 0..package.len() {
+        for byte in [0, 1, 2, 3, 4, 31, 32, 33, 64, 128, 254, 255] {
+            let mut changed = package.clone();
+            changed[index] = byte;
+            let mut both = Both::new(4, Tables::new(4));
+            let answer = take_in(random, &mut both, &changed);
+            assert!(matches!(answer, Ok(_) | Err(3)), "{answer:?}");
+        }
+    }
+}

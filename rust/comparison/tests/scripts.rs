@@ -1,0 +1,401 @@
+//! Random lists of calls on tables just set up: the proved calls against the outside
+//! implementation, and demand 3.
+
+use comparison::both::Both;
+use comparison::generate::scripts::{Call, Source};
+use comparison::generate::{self, Random};
+use comparison::proved;
+use comparison::proved::calls::altering;
+use comparison::reached::Reached;
+use comparison::turns::{self, TurnEvent};
+use outside::book::{self, LoggedTurn};
+use outside::calls::plain_run;
+use outside::checker::Turned;
+use outside::intake::Taken;
+use outside::package::{entries, Entry, ALREADY_HELD, DONE};
+use outside::program::SETTINGS;
+use outside::tables::{Status, Tables, MAX_CAPACITY};
+
+/// How many lists of calls are made on both.
+const SCRIPTS: usize = 1_500;
+
+/// How many lists of calls are made on the proved library alone.
+const SCRIPTS_ALONE: usize = 1_000;
+
+/// How many calls each list has.
+const CALLS: usize = 60;
+
+/// What the lists of calls are to reach.
+#[derive(Clone, Copy, Debug, PartialEq, Eq, PartialOrd, Ord)]
+enum Event {
+    Taken,
+    Held,
+    HeldWithdrawn,
+    HeldWhenFull,
+    TakeInRefused(u8),
+    Withdrawn(Status),
+    WithdrawRefused(u8),
+    Package,
+    PackageRefused(u8),
+    /// The answers of a package's changes and withdrawals.
+    ChangeAnswered(u8),
+    WithdrawalAnswered(u8),
+    Idle,
+    Turn(TurnEvent),
+    /// A drain's turns: none, and several.
+    DrainOfNone,
+    DrainOfSeveral,
+    /// A change that was Valid before a drain has a turn in it.
+    DrainMarks,
+    Drained,
+}
+
+/// A list of calls, made on both.
+struct Script {
+    both: Both,
+    calls: Vec<book::Call>,
+}
+
+impl Script {
+    fn new(n: usize) -> Self {
+        Self {
+            both: Both::set_up(n),
+            calls: Vec::new(),
+        }
+    }
+
+    /// Makes a call and counts what comes of it.
+    fn make(&mut self, call: Call, reached: &mut Reached<Event>) {
+        let before = self.both.tables().clone();
+        match call {
+            Call::TakeIn { timestamp, program } => {
+                let taken = self.both.take_in(timestamp, &program);
+                count_taken(reached, &before, timestamp, taken);
+                self.calls.push(book::Call::TakeIn {
+                    timestamp,
+                    program,
+                    answer: number(taken),
+                });
+            }
+            Call::Withdraw { timestamp } => {
+                let withdrawn = self.both.withdraw(timestamp);
+                reached.count(match withdrawn {
+                    Ok(()) => {
+                        let place = before.place_of(timestamp).expect("it is held");
+                        Event::Withdrawn(before.status(place))
+                    }
+                    Err(refusal) => Event::WithdrawRefused(refusal),
+                });
+                self.calls.push(book::Call::Withdraw {
+                    timestamp,
+                    answer: number(withdrawn.map(|()| Taken::Done)),
+                });
+            }
+            Call::TakeInPackage {
+                package,
+                mut answers,
+            } => {
+                let taken = self.both.take_in_package(&package, &mut answers);
+                count_package(reached, &package, &answers, taken);
+                self.calls.push(book::Call::TakeInPackage {
+                    package,
+                    answers,
+                    answer: number(taken.map(|()| Taken::Done)),
+                });
+            }
+            Call::Turn => {
+                let turn = logged_turn(&mut self.both, reached);
+                reached.count_if(turn.is_none(), Event::Idle);
+                self.calls.push(book::Call::Turn(turn));
+            }
+            Call::Drain => self.drain(reached),
+        }
+    }
+
+    /// Drains, compares the drain with single turns, and checks demand 3.
+    fn drain(&mut self, reached: &mut Reached<Event>) {
+        let mut single = self.both.clone();
+        let held = single.tables().held_count();
+        let turns = book::turns_of_drain(held, || logged_turn(&mut single, reached));
+        reached.count_if(turns.is_empty(), Event::DrainOfNone);
+        reached.count_if(turns.len() > 1, Event::DrainOfSeveral);
+        let valid = |logged: &LoggedTurn| {
+            let tables = self.both.tables();
+            let place = tables.place_of(logged.turn.timestamp).expect("it is held");
+            tables.status(place) == Status::Valid
+        };
+        reached.count_if(turns.iter().any(valid), Event::DrainMarks);
+
+        let totals = self.both.drain().expect("the tables are in form");
+        let tables = self.both.tables();
+        assert!(
+            tables == single.tables(),
+            "a drain's turns are single turns"
+        );
+        self.calls.push(book::Call::Drain(Some((totals, turns))));
+        let checked = book::check(&self.calls, tables);
+        assert!(checked.is_ok(), "{checked:?} of {:?}", self.calls);
+        let mut plain = [0; SETTINGS];
+        assert_eq!(plain_run(self.both.capacity(), tables, &mut plain), Ok(()));
+        assert!(tables.view == plain, "the view is what a plain run leaves");
+        reached.count(Event::Drained);
+    }
+}
+
+/// A turn on both, with what the book needs of it.
+fn logged_turn(both: &mut Both, reached: &mut Reached<Event>) -> Option<LoggedTurn> {
+    let before = both.tables().clone();
+    let turn = both.turn().expect("the tables are in form")?;
+    for event in turns::events(&before, both.tables(), turn) {
+        reached.count(Event::Turn(event));
+    }
+    Some(LoggedTurn::new(turn, both.tables()))
+}
+
+/// The number of an answer.
+fn number(answer: Result<Taken, u8>) -> u8 {
+    match answer {
+        Ok(Taken::Done) => DONE,
+        Ok(Taken::AlreadyHeld) => ALREADY_HELD,
+        Err(refusal) => refusal,
+    }
+}
+
+fn count_taken(
+    reached: &mut Reached<Event>,
+    before: &Tables,
+    timestamp: u64,
+    taken: Result<Taken, u8>,
+) {
+    match taken {
+        Ok(Taken::Done) => reached.count(Event::Taken),
+        Ok(Taken::AlreadyHeld) => {
+            let place = before.place_of(timestamp).expect("it is held");
+            let full = before.held_count() == before.timestamps.len();
+            reached.count(Event::Held);
+            reached.count_if(before.withdrawn[place] == 1, Event::HeldWithdrawn);
+            reached.count_if(full, Event::HeldWhenFull);
+        }
+        Err(refusal) => reached.count(Event::TakeInRefused(refusal)),
+    }
+}
+
+fn count_package(
+    reached: &mut Reached<Event>,
+    package: &[u8],
+    answers: &[u8],
+    taken: Result<(), u8>,
+) {
+    match taken {
+        Ok(()) => {
+            reached.count(Event::Package);
+            let entries = entries(package).expect("it is not refused");
+            for (entry, &answer) in entries.iter().zip(answers) {
+                reached.count(match entry {
+                    Entry::Change { .. } => Event::ChangeAnswered(answer),
+                    Entry::Withdrawal { .. } => Event::WithdrawalAnswered(answer),
+                });
+            }
+        }
+        Err(refusal) => reached.count(Event::PackageRefused(refusal)),
+    }
+}
+
+/// A capacity: small, so that tables are soon full, or one that a list of calls may just fill.
+fn capacity(random: &mut Random) -> usize {
+    match random.below(6) {
+        0 => 1 + random.below(6),
+        _ => 12 + random.below(16),
+    }
+}
+
+#[test]
+fn lists_of_calls_have_the_same_answers_and_tables_and_meet_demand_3() {
+    let random = &mut Random::new(generate::seed());
+    let mut reached = Reached::default();
+    for _ in 0..SCRIPTS {
+        let n = capacity(random);
+        let mut source = Source::new(random, n);
+        let mut script = Script::new(n);
+        for _ in 0..CALLS {
+            let call = source.call(random, script.both.tables());
+            script.make(call, &mut reached);
+            if random.below(2) == 0 {
+                script
+                    .both
+                    .query(source.timestamp(random), source.setting(random));
+            }
+        }
+        script.drain(&mut reached);
+    }
+
+    reached.print();
+    for event in [
+        Event::Taken,
+        Event::Package,
+        Event::Idle,
+        Event::DrainOfSeveral,
+        Event::Drained,
+        Event::Withdrawn(Status::New),
+        Event::Withdrawn(Status::Valid),
+        Event::Turn(TurnEvent::Answered(Turned::Ran)),
+        Event::Turn(TurnEvent::Answered(Turned::Cleared)),
+        Event::Turn(TurnEvent::RanFirst),
+        Event::Turn(TurnEvent::RanAgain),
+        Event::Turn(TurnEvent::Added),
+        Event::Turn(TurnEvent::AddedEqual),
+        Event::Turn(TurnEvent::Marked),
+        Event::Turn(TurnEvent::ViewWritten),
+        Event::Turn(TurnEvent::ViewOfLaterWriter),
+    ] {
+        reached.assert_at_least(SCRIPTS, event);
+    }
+    for event in [
+        Event::Held,
+        Event::HeldWithdrawn,
+        Event::HeldWhenFull,
+        Event::DrainOfNone,
+        Event::DrainMarks,
+        Event::Withdrawn(Status::Invalid),
+        Event::Turn(TurnEvent::Answered(Turned::Stood)),
+        Event::Turn(TurnEvent::Faulted),
+        Event::Turn(TurnEvent::WritesSecondTime),
+        Event::Turn(TurnEvent::FaultsSecondTime),
+        Event::Turn(TurnEvent::ClearedNew),
+        Event::Turn(TurnEvent::ClearedWriter),
+        Event::Turn(TurnEvent::Removed),
+        Event::Turn(TurnEvent::RemovedEqual),
+        Event::Turn(TurnEvent::Rewritten),
+        Event::Turn(TurnEvent::RewrittenEqual),
+        Event::Turn(TurnEvent::MarkedWriter),
+        Event::Turn(TurnEvent::NotMarkedBehindWriter),
+        Event::Turn(TurnEvent::ViewOfPreviousWriter),
+    ] {
+        reached.assert_at_least(SCRIPTS / 20, event);
+    }
+    for (answered, answers) in [
+        (
+            Event::TakeInRefused as fn(u8) -> Event,
+            &[4, 6, 7, 8, 9][..],
+        ),
+        (Event::WithdrawRefused, &[4, 10, 11]),
+        (Event::PackageRefused, &[1, 3]),
+        (Event::ChangeAnswered, &[DONE, ALREADY_HELD, 4, 7, 8, 9]),
+        (Event::WithdrawalAnswered, &[DONE, 4, 10, 11]),
+    ] {
+        for &answer in answers {
+            reached.assert_at_least(SCRIPTS / 50, answered(answer));
+        }
+    }
+}
+
+/// Makes a call on the proved library alone.
+fn make_alone(n: usize, tables: &mut Tables, call: Call) -> book::Call {
+    match call {
+        Call::TakeIn { timestamp, program } => {
+            let taken = altering::take_in(n, tables, timestamp, &program);
+            book::Call::TakeIn {
+                timestamp,
+                program,
+                answer: number(taken),
+            }
+        }
+        Call::Withdraw { timestamp } => {
+            let withdrawn = altering::withdraw(n, tables, timestamp);
+            book::Call::Withdraw {
+                timestamp,
+                answer: number(withdrawn.map(|()| Taken::Done)),
+            }
+        }
+        Call::TakeInPackage {
+            package,
+            mut answers,
+        } => {
+            let taken = altering::take_in_package(n, tables, &package, &mut answers);
+            book::Call::TakeInPackage {
+                package,
+                answers,
+                answer: number(taken.map(|()| Taken::Done)),
+            }
+        }
+        Call::Turn => book::Call::Turn(turn_alone(n, tables)),
+        Call::Drain => {
+            let mut single = tables.clone();
+            let held = single.held_count();
+            let turns = book::turns_of_drain(held, || turn_alone(n, &mut single));
+            let totals = altering::drain(n, tables).expect("the tables are in form");
+            assert!(*tables == single, "a drain's turns are single turns");
+            book::Call::Drain(Some((totals, turns)))
+        }
+    }
+}
+
+fn turn_alone(n: usize, tables: &mut Tables) -> Option<LoggedTurn> {
+    let turn = altering::turn(n, tables).expect("the tables are in form")?;
+    Some(LoggedTurn::new(turn, tables))
+}
+
+/// Demand 3 without the outside implementation's Checker.
+#[test]
+fn lists_of_calls_on_the_proved_library_alone_meet_demand_3() {
+    let random = &mut Random::new(generate::seed() + 1);
+    let mut drained = 0;
+    for _ in 0..SCRIPTS_ALONE {
+        let n = capacity(random);
+        let mut source = Source::new(random, n);
+        let mut tables = Tables::new(n);
+        assert_eq!(proved::calls::set_up(n, &mut tables), Ok(()));
+        let mut calls = Vec::new();
+        for index in 0..=CALLS {
+            let call = match index {
+                CALLS => Call::Drain,
+                _ => source.call(random, &tables),
+            };
+            calls.push(make_alone(n, &mut tables, call));
+            if let Some(book::Call::Drain(_)) = calls.last() {
+                let checked = book::check(&calls, &tables);
+                assert!(checked.is_ok(), "{checked:?} of {calls:?}");
+                drained += 1;
+            }
+        }
+    }
+    println!("demand 3 checked {drained} times");
+    assert!(drained > 4 * SCRIPTS_ALONE, "{drained}");
+}
+
+/// Full tables of the highest capacity.
+#[test]
+fn capacity_4096_has_the_same_answers_and_tables() {
+    let random = &mut Random::new(generate::seed());
+    let mut both = Both::set_up(MAX_CAPACITY);
+    let source = Source::new(random, MAX_CAPACITY);
+    // By falling timestamp: every third arrives last, after a drain.
+    let mut timestamps: Vec<u64> = (1..=MAX_CAPACITY as u64).rev().collect();
+    timestamps.sort_by_key(|timestamp| timestamp % 3 == 0);
+    let package = |timestamps: &[u64], random: &mut Random| {
+        let change = |&timestamp| Entry::Change {
+            timestamp,
+            program: source.program(random),
+        };
+        let entries: Vec<Entry> = timestamps.iter().map(change).collect();
+        generate::packages::lay_out(&entries)
+    };
+    let (first, last) = timestamps.split_at(MAX_CAPACITY - MAX_CAPACITY / 3);
+    for timestamps in [first, last] {
+        for timestamps in timestamps.chunks(256) {
+            let mut answers = vec![99; 512];
+            let taken = both.take_in_package(&package(timestamps, random), &mut answers);
+            assert_eq!(taken, Ok(()));
+            assert!(answers[..timestamps.len()]
+                .iter()
+                .all(|&answer| answer == DONE));
+        }
+        let totals = both.drain().expect("the tables are in form");
+        println!("{totals:?}");
+        assert!(totals.ran as usize >= timestamps.len(), "{totals:?}");
+    }
+    assert_eq!(both.take_in(MAX_CAPACITY as u64 + 1, &[]), Err(9));
+    let mut plain = [0; SETTINGS];
+    assert_eq!(plain_run(MAX_CAPACITY, both.tables(), &mut plain), Ok(()));
+    assert!(both.tables().view == plain);
+}

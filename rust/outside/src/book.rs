@@ -1,0 +1,287 @@
+//! Demand 3: the book, the fresh run, and what is claimed of the tables and of the turns after a
+//! drain.
+//!
+//! Document 01, "Demand 3 spelled out". Nothing here uses the Checker: it looks at calls as they
+//! were made and answered, by whatever implementation, and at the tables that they left.
+
+use crate::checker::{Totals, Turn, Turned};
+use crate::package::{entries, Entry, DONE};
+use crate::program::{self, Access, SETTINGS};
+use crate::tables::Tables;
+use std::collections::{BTreeMap, BTreeSet};
+use std::iter;
+
+/// A call that may alter the tables, with its arguments besides N and the tables, and its answer.
+/// Where the answer is a number it is 0 for done, 255 for already held, else the refusal.
+#[derive(Clone, Debug)]
+#[allow(missing_docs)]
+pub enum Call {
+    TakeIn {
+        timestamp: u64,
+        program: Vec<u8>,
+        answer: u8,
+    },
+    Withdraw {
+        timestamp: u64,
+        answer: u8,
+    },
+    /// `answers` is the lent slice after the call.
+    TakeInPackage {
+        package: Vec<u8>,
+        answers: Vec<u8>,
+        answer: u8,
+    },
+    /// None where it is idle or refused.
+    Turn(Option<LoggedTurn>),
+    /// None where it is refused. A drain does not tell its turns: [`turns_of_drain`] finds them.
+    Drain(Option<(Totals, Vec<LoggedTurn>)>),
+}
+
+/// A turn, and the read list with the seen values that the tables have for its change after it.
+#[derive(Clone, Debug, PartialEq, Eq)]
+#[allow(missing_docs)]
+pub struct LoggedTurn {
+    pub turn: Turn,
+    pub reads: Vec<Access>,
+}
+
+impl LoggedTurn {
+    /// The turn with the read list that these tables, in form, hold after it.
+    pub fn new(turn: Turn, tables: &Tables) -> Self {
+        let place = tables.place_of(turn.timestamp);
+        Self {
+            turn,
+            reads: place.map_or(Vec::new(), |place| tables.read_list(place).collect()),
+        }
+    }
+}
+
+/// The turns of a drain of tables that hold so many changes: "those that single calls of turn from
+/// the same tables would answer, each with timestamp and answer." `turn` makes such a call. There
+/// are calls until one is idle or there is one more than changes, which is one too many.
+pub fn turns_of_drain(held: usize, turn: impl FnMut() -> Option<LoggedTurn>) -> Vec<LoggedTurn> {
+    iter::from_fn(turn).take(held + 1).collect()
+}
+
+/// What a list of calls, or the tables after it, break.
+#[derive(Clone, Copy, Debug, PartialEq, Eq)]
+pub enum Breach {
+    /// "The last call is a drain that is answered".
+    NotDrained,
+    /// "the tables hold the book's timestamps and no others".
+    Timestamps,
+    /// "each with the fresh run's lists, entry for entry in order": the read list of a timestamp.
+    Reads(u64),
+    /// The write list of a timestamp.
+    Writes(u64),
+    /// "each of the 1,024 entries of the view is that setting at the fresh run's end": a setting.
+    View(usize),
+    /// A drain "returns how many ran, stood and were cleared".
+    Totals,
+    /// A turn of the last drain names a timestamp that is not in the book.
+    NotBooked(u64),
+    /// A change has two turns in the last drain.
+    TwoTurns(u64),
+    /// A change is run again in the last drain although every setting that it had read holds, in
+    /// the fresh run just before it, the value it saw.
+    RunInVain(u64),
+}
+
+/// Checks demand 3 for a list of calls that begins on tables just set up, and the tables that it
+/// left, which must be in form.
+pub fn check(calls: &[Call], tables: &Tables) -> Result<(), Breach> {
+    let Some((Call::Drain(Some((totals, turns))), earlier)) = calls.split_last() else {
+        return Err(Breach::NotDrained);
+    };
+    let fresh = Book::of(calls).fresh_run();
+    fresh.check_tables(tables)?;
+    check_totals(*totals, turns)?;
+    check_one_turn_each(turns, &fresh)?;
+    check_none_in_vain(earlier, turns, &fresh)
+}
+
+/// "The book is kept from the calls' arguments and answers alone and starts empty."
+#[derive(Default)]
+struct Book(BTreeMap<u64, Booked>);
+
+struct Booked {
+    program: Vec<u8>,
+    withdrawn: bool,
+}
+
+impl Book {
+    /// "Already held, a refusal, a turn and a drain leave the book as it is."
+    fn of(calls: &[Call]) -> Self {
+        let mut book = Self::default();
+        for call in calls {
+            match call {
+                Call::TakeIn {
+                    timestamp,
+                    program,
+                    answer: DONE,
+                } => book.enter(*timestamp, program.clone()),
+                Call::Withdraw {
+                    timestamp,
+                    answer: DONE,
+                } => book.mark_withdrawn(*timestamp),
+                Call::TakeInPackage {
+                    package,
+                    answers,
+                    answer: DONE,
+                } => book.take_package(package, answers),
+                _ => {}
+            }
+        }
+        book
+    }
+
+    /// "A taking in answered done enters its timestamp and program, not withdrawn."
+    fn enter(&mut self, timestamp: u64, program: Vec<u8>) {
+        let withdrawn = false;
+        self.0.insert(timestamp, Booked { program, withdrawn });
+    }
+
+    /// "A withdrawal answered done marks that timestamp withdrawn."
+    fn mark_withdrawn(&mut self, timestamp: u64) {
+        if let Some(booked) = self.0.get_mut(&timestamp) {
+            booked.withdrawn = true;
+        }
+    }
+
+    /// "In a package answered done, each entry answered 0 counts as such a call, in order."
+    fn take_package(&mut self, package: &[u8], answers: &[u8]) {
+        let entries = entries(package).unwrap_or_default();
+        for (entry, &answer) in entries.into_iter().zip(answers) {
+            match entry {
+                _ if answer != DONE => {}
+                Entry::Change { timestamp, program } => self.enter(timestamp, program),
+                Entry::Withdrawal { timestamp } => self.mark_withdrawn(timestamp),
+            }
+        }
+    }
+
+    /// "The fresh run starts 1,024 settings of its own, each at its start value, and goes through
+    /// the book by rising timestamp."
+    fn fresh_run(&self) -> FreshRun {
+        let mut settings = [0; SETTINGS];
+        let mut changes = BTreeMap::new();
+        for (&timestamp, booked) in &self.0 {
+            let mut fresh = Fresh {
+                before: settings,
+                reads: Vec::new(),
+                writes: Vec::new(),
+            };
+            // "A withdrawn change is passed over; its lists are empty. Any other is run by its
+            // instructions on those settings as they then stand."
+            if !booked.withdrawn {
+                let outcome = program::run(&booked.program, &settings);
+                fresh.reads = outcome.reads().to_vec();
+                fresh.writes = outcome.writes().to_vec();
+            }
+            // "Its writes are then carried into the settings."
+            for write in &fresh.writes {
+                settings[usize::from(write.setting)] = write.value;
+            }
+            changes.insert(timestamp, fresh);
+        }
+        FreshRun { changes, settings }
+    }
+}
+
+/// What the fresh run gives.
+struct FreshRun {
+    changes: BTreeMap<u64, Fresh>,
+    /// The settings at its end.
+    settings: [i32; SETTINGS],
+}
+
+/// What it gives for a change.
+struct Fresh {
+    /// The settings just before it.
+    before: [i32; SETTINGS],
+    reads: Vec<Access>,
+    writes: Vec<Access>,
+}
+
+impl FreshRun {
+    fn check_tables(&self, tables: &Tables) -> Result<(), Breach> {
+        let held = &tables.timestamps[..tables.held_count()];
+        let timestamps: BTreeSet<u64> = held.iter().copied().collect();
+        if held.len() != timestamps.len() || !timestamps.iter().eq(self.changes.keys()) {
+            return Err(Breach::Timestamps);
+        }
+        for (place, timestamp) in held.iter().enumerate() {
+            let fresh = &self.changes[timestamp];
+            if !tables.read_list(place).eq(fresh.reads.iter().copied()) {
+                return Err(Breach::Reads(*timestamp));
+            }
+            if !tables.write_list(place).eq(fresh.writes.iter().copied()) {
+                return Err(Breach::Writes(*timestamp));
+            }
+        }
+        match (0..SETTINGS).find(|&setting| tables.view[setting] != self.settings[setting]) {
+            Some(setting) => Err(Breach::View(setting)),
+            None => Ok(()),
+        }
+    }
+}
+
+fn check_totals(totals: Totals, turns: &[LoggedTurn]) -> Result<(), Breach> {
+    let mut counted = Totals::default();
+    for logged in turns {
+        counted.count(logged.turn.turned);
+    }
+    match totals == counted {
+        true => Ok(()),
+        false => Err(Breach::Totals),
+    }
+}
+
+fn check_one_turn_each(turns: &[LoggedTurn], fresh: &FreshRun) -> Result<(), Breach> {
+    let mut timestamps = BTreeSet::new();
+    for logged in turns {
+        let timestamp = logged.turn.timestamp;
+        if !fresh.changes.contains_key(&timestamp) {
+            return Err(Breach::NotBooked(timestamp));
+        }
+        if !timestamps.insert(timestamp) {
+            return Err(Breach::TwoTurns(timestamp));
+        }
+    }
+    Ok(())
+}
+
+/// "A turn of that drain runs its change again if it answers ran and an earlier turn in the list,
+/// single or a drain's, ran that change and replaced its lists. What the change had read and saw is
+/// the read list and seen values that the last such earlier turn put there."
+fn check_none_in_vain(
+    earlier: &[Call],
+    turns: &[LoggedTurn],
+    fresh: &FreshRun,
+) -> Result<(), Breach> {
+    let earlier = earlier.iter().flat_map(|call| match call {
+        Call::Turn(turn) => turn.as_slice(),
+        Call::Drain(Some((_, turns))) => turns,
+        _ => &[],
+    });
+    let ran = |logged: &&LoggedTurn| logged.turn.turned == Turned::Ran;
+    let mut had_read: BTreeMap<u64, &[Access]> = BTreeMap::new();
+    for logged in earlier.filter(ran) {
+        had_read.insert(logged.turn.timestamp, &logged.reads);
+    }
+    for logged in turns.iter().filter(ran) {
+        let timestamp = logged.turn.timestamp;
+        let before = &fresh.changes[&timestamp].before;
+        let holds = |read: &Access| before[usize::from(read.setting)] == read.value;
+        if had_read
+            .get(&timestamp)
+            .is_some_and(|reads| reads.iter().all(holds))
+        {
+            return Err(Breach::RunInVain(timestamp));
+        }
+    }
+    Ok(())
+}
+
+#[cfg(test)]
+mod tests;

@@ -1,0 +1,264 @@
+//! The Checker: the calls turn and drain.
+//!
+//! Figure 1 of source document 004, whose names and comments stand in the code, with what document
+//! 01, "A turn", adds.
+
+use crate::calls::{check, Refusal};
+use crate::program::{self, Access, SETTINGS};
+use crate::tables::{Status, Tables, INFINITY};
+use std::collections::{BTreeMap, BTreeSet};
+
+/// What a turn did with its change.
+#[derive(Clone, Copy, Debug, PartialEq, Eq, PartialOrd, Ord)]
+pub enum Turned {
+    /// It ran the change, whether the run faulted or not.
+    Ran,
+    /// "each seen value equals the value as of its timestamp: it becomes Valid".
+    Stood,
+    /// The change is withdrawn: "both new lists are empty".
+    Cleared,
+}
+
+/// A turn's answer, where it is neither idle nor refused: it "also names that change's timestamp".
+#[derive(Clone, Copy, Debug, PartialEq, Eq)]
+#[allow(missing_docs)]
+pub struct Turn {
+    pub timestamp: u64,
+    pub turned: Turned,
+}
+
+/// A drain's answer: "how many ran, stood and were cleared".
+#[derive(Clone, Copy, Debug, Default, PartialEq, Eq)]
+#[allow(missing_docs)]
+pub struct Totals {
+    pub ran: u64,
+    pub stood: u64,
+    pub cleared: u64,
+}
+
+impl Totals {
+    /// Counts a turn.
+    pub fn count(&mut self, turned: Turned) {
+        *match turned {
+            Turned::Ran => &mut self.ran,
+            Turned::Stood => &mut self.stood,
+            Turned::Cleared => &mut self.cleared,
+        } += 1;
+    }
+}
+
+/// Makes a turn. The answer is none for idle.
+pub fn turn(n: usize, tables: &mut Tables) -> Result<Option<Turn>, Refusal> {
+    check(n, tables)?;
+    let mut history = History::of(tables);
+    let turn = history.turn();
+    history.store(tables);
+    Ok(turn)
+}
+
+/// "A drain makes turns until idle and returns how many ran, stood and were cleared."
+pub fn drain(n: usize, tables: &mut Tables) -> Result<Totals, Refusal> {
+    check(n, tables)?;
+    let mut history = History::of(tables);
+    let mut totals = Totals::default();
+    while let Some(turn) = history.turn() {
+        totals.count(turn.turned);
+    }
+    history.store(tables);
+    Ok(totals)
+}
+
+/// A change, as source document 004 speaks of it.
+struct Update {
+    program: Vec<u8>,
+    status: Status,
+    withdrawn: bool,
+    /// With the values seen.
+    readset: Vec<Access>,
+    writeset: Vec<Access>,
+}
+
+impl Update {
+    fn reads(&self, x: u16) -> bool {
+        self.readset.iter().any(|read| read.setting == x)
+    }
+
+    /// The value that it wrote to x.
+    fn written(&self, x: u16) -> Option<i32> {
+        let write = self.writeset.iter().find(|write| write.setting == x);
+        write.map(|write| write.value)
+    }
+}
+
+/// The updates, and the current database copy. "Because update timestamps are unique, we use the
+/// timestamp T of an update to also refer to the update itself" (source document 004).
+struct History {
+    updates: BTreeMap<u64, Update>,
+    current: Vec<i32>,
+}
+
+impl History {
+    /// What tables in form hold.
+    fn of(tables: &Tables) -> Self {
+        let update = |place| Update {
+            program: tables.program(place).to_vec(),
+            status: tables.status(place),
+            withdrawn: tables.withdrawn[place] != 0,
+            readset: tables.read_list(place).collect(),
+            writeset: tables.write_list(place).collect(),
+        };
+        let places = 0..tables.held_count();
+        Self {
+            updates: places
+                .map(|place| (tables.timestamps[place], update(place)))
+                .collect(),
+            current: tables.view.clone(),
+        }
+    }
+
+    /// Stores to the tables that this was made of what turns may have altered.
+    fn store(self, tables: &mut Tables) {
+        for place in 0..tables.held_count() {
+            let update = &self.updates[&tables.timestamps[place]];
+            tables.status[place] = update.status.number();
+            tables.replace_lists(place, &update.readset, &update.writeset);
+        }
+        tables.view = self.current;
+    }
+
+    /// The updates "that have x in their writesets".
+    fn writers(&self, x: u16) -> impl Iterator<Item = u64> + '_ {
+        let writers = self.updates.iter();
+        let writers = writers.filter(move |(_, update)| update.written(x).is_some());
+        writers.map(|(&timestamp, _)| timestamp)
+    }
+
+    /// Previous-Writer(x,T): "the highest timestamp smaller than T among all updates that have x in
+    /// their writesets", or "the special timestamp zero (smaller than any other update's
+    /// timestamp)".
+    fn previous_writer(&self, x: u16, t: u64) -> u64 {
+        self.writers(x).filter(|&u| u < t).max().unwrap_or(0)
+    }
+
+    /// Next-Writer(x,T): "the lowest timestamp greater than T among all updates that have x in
+    /// their writesets. If there is no such update [..] infinity."
+    fn next_writer(&self, x: u16, t: u64) -> u64 {
+        self.writers(x).filter(|&u| u > t).min().unwrap_or(INFINITY)
+    }
+
+    /// Last-Writer(x) "is the same as Previous-Writer(x, infinity)".
+    fn last_writer(&self, x: u16) -> u64 {
+        self.previous_writer(x, INFINITY)
+    }
+
+    /// Value-Upto(x,T): "value v in the writeset entry <Write, x, Previous-Writer(x,T), v>".
+    /// Document 01: "Every setting starts at 0."
+    fn value_upto(&self, x: u16, t: u64) -> i32 {
+        let writer = self.updates.get(&self.previous_writer(x, t));
+        writer.and_then(|update| update.written(x)).unwrap_or(0)
+    }
+
+    /// Value-Upto(x,T) of every x.
+    fn values_upto(&self, t: u64) -> [i32; SETTINGS] {
+        let mut previous_writers = [0; SETTINGS];
+        let mut values = [0; SETTINGS];
+        for (&u, update) in self.updates.iter().filter(|(&u, _)| u < t) {
+            for write in &update.writeset {
+                let x = usize::from(write.setting);
+                if u > previous_writers[x] {
+                    previous_writers[x] = u;
+                    values[x] = write.value;
+                }
+            }
+        }
+        values
+    }
+
+    /// One round of the loop in Figure 1, or none where it would wait.
+    fn turn(&mut self) -> Option<Turn> {
+        // T := lowest-timestamped New or Invalid update
+        let waiting = self.updates.iter();
+        let waiting = waiting.filter(|(_, update)| update.status != Status::Valid);
+        let t = waiting.map(|(&timestamp, _)| timestamp).min()?;
+        let update = &self.updates[&t];
+
+        let turned = if update.withdrawn {
+            self.install(t, Vec::new(), Vec::new());
+            Turned::Cleared
+        } else if update.status == Status::Invalid && self.seen_values_hold(t) {
+            self.mark_valid(t);
+            Turned::Stood
+        } else {
+            // execute update T
+            let outcome = program::run(&update.program, &self.values_upto(t));
+            self.install(t, outcome.reads().to_vec(), outcome.writes().to_vec());
+            Turned::Ran
+        };
+        Some(Turn {
+            timestamp: t,
+            turned,
+        })
+    }
+
+    /// "each seen value equals the value as of its timestamp".
+    fn seen_values_hold(&self, t: u64) -> bool {
+        let mut reads = self.updates[&t].readset.iter();
+        reads.all(|read| read.value == self.value_upto(read.setting, t))
+    }
+
+    /// What Figure 1 does once newrset and newwset are known.
+    fn install(&mut self, t: u64, newrset: Vec<Access>, newwset: Vec<Access>) {
+        // determine objects whose values changed
+        let new = by_setting(&newwset);
+        let old = by_setting(&self.updates[&t].writeset);
+        let added = new
+            .iter()
+            .filter(|(x, &v2)| !old.contains_key(x) && v2 != self.value_upto(**x, t));
+        let removed = old
+            .iter()
+            .filter(|(x, &v1)| !new.contains_key(x) && v1 != self.value_upto(**x, t));
+        let changed = new
+            .iter()
+            .filter(|(x, v2)| old.get(x).is_some_and(|v1| *v2 != v1));
+        let changeset: BTreeSet<u16> = added
+            .chain(removed)
+            .chain(changed)
+            .map(|(&x, _)| x)
+            .collect();
+
+        for x in changeset {
+            // mark future readers Invalid, through next writer
+            let next_writer = self.next_writer(x, t);
+            for (&u, update) in &mut self.updates {
+                if update.status == Status::Valid && u > t && u <= next_writer && update.reads(x) {
+                    update.status = Status::Invalid;
+                }
+            }
+            // update x in current database copy
+            if t >= self.last_writer(x) {
+                let value = new.get(&x).copied();
+                self.current[usize::from(x)] = value.unwrap_or_else(|| self.value_upto(x, t));
+            }
+        }
+
+        // update history, atomically; done with T
+        let update = self.updates.get_mut(&t).expect("T is an update");
+        update.readset = newrset;
+        update.writeset = newwset;
+        self.mark_valid(t);
+    }
+
+    fn mark_valid(&mut self, t: u64) {
+        let update = self.updates.get_mut(&t).expect("T is an update");
+        update.status = Status::Valid;
+    }
+}
+
+/// A writeset as the set of pairs that Figure 1 takes it for.
+fn by_setting(writeset: &[Access]) -> BTreeMap<u16, i32> {
+    let writes = writeset.iter();
+    writes.map(|write| (write.setting, write.value)).collect()
+}
+
+#[cfg(test)]
+mod tests;

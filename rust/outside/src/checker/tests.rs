@@ -1,0 +1,493 @@
+use super::Turned::{Cleared, Ran, Stood};
+use super::*;
+use crate::calls::value_as_of;
+use crate::examples::{
+    add, copy, four_changes, if_zero, set, tables, take, write_named_by, Change, Script, INVALID,
+    NEW, VALID,
+};
+use crate::program::{op, Instruction};
+
+/// The program of no instructions.
+const NOTHING: [Instruction; 0] = [];
+
+// Document 01, "Cases to know". A drain of a script checks demand 3.
+
+#[test]
+fn p1_nothing_held() {
+    for n in [1, 4, 128] {
+        let mut script = Script::new(n);
+        assert_eq!(script.drain(), []);
+        assert_eq!(script.turn(), None);
+        assert_eq!(script.tables, Tables::new(n));
+    }
+}
+
+#[test]
+fn p2_a_write_before_a_later_write() {
+    let mut script = Script::new(4);
+    script.take_in(20, &set(34, 5));
+    script.drain();
+    script.take_in(10, &set(34, 7));
+    assert_eq!(script.drain(), [(10, Ran)]);
+    assert_eq!(script.view(), [(34, 5)]);
+    assert_eq!(value_as_of(4, &script.tables, 15, 34), Ok(7));
+}
+
+#[test]
+fn p3_a_write_before_a_later_reader() {
+    let mut script = Script::new(4);
+    script.take_in(20, &copy(34, 50));
+    script.drain();
+    script.take_in(10, &set(34, 7));
+    assert_eq!(script.drain(), [(10, Ran), (20, Ran)]);
+    assert_eq!(script.view(), [(34, 7), (50, 7)]);
+}
+
+/// Also class mistake 3: "Marking all later readers although the value is equal (P4)."
+#[test]
+fn p4_a_write_of_an_equal_value() {
+    let mut script = Script::new(4);
+    script.take_in(20, &copy(34, 50));
+    script.drain();
+    script.take_in(10, &set(34, 0));
+    assert_eq!(script.drain(), [(10, Ran)]);
+}
+
+#[test]
+fn p5_a_reader_behind_the_next_writer() {
+    let mut script = Script::new(4);
+    script.take_in(20, &set(34, 5));
+    script.take_in(30, &copy(34, 50));
+    script.drain();
+    script.take_in(10, &set(34, 7));
+    assert_eq!(script.drain(), [(10, Ran)]);
+}
+
+/// Also class mistake 1: "Stopping before the next writer: it may have read the setting (P6)."
+#[test]
+fn p6_the_next_writer_has_read_the_setting() {
+    let mut script = Script::new(4);
+    script.take_in(20, &add(34, 1));
+    script.drain();
+    script.take_in(10, &set(34, 7));
+    assert_eq!(script.drain(), [(10, Ran), (20, Ran)]);
+    assert_eq!(script.view(), [(34, 8)]);
+}
+
+#[test]
+fn p7_the_seen_values_hold_again() {
+    let mut script = Script::new(4);
+    script.take_in(30, &copy(34, 50));
+    script.drain();
+    script.take_in(10, &set(34, 7));
+    assert_eq!(script.turn(), Some((10, Ran)));
+    script.take_in(20, &set(34, 0));
+    assert_eq!(script.drain(), [(20, Ran), (30, Stood)]);
+}
+
+#[test]
+fn p8_a_withdrawal() {
+    let mut script = Script::new(4);
+    script.take_in(10, &[set(34, 7), set(40, 3)].concat());
+    script.drain();
+    assert_eq!(script.view(), [(34, 7), (40, 3)]);
+    script.withdraw(10);
+    assert_eq!(script.drain(), [(10, Cleared)]);
+    assert_eq!(script.view(), []);
+}
+
+#[test]
+fn p9_a_setting_written_twice() {
+    let mut script = Script::new(4);
+    script.take_in(10, &[set(34, 7), set(34, 8)].concat());
+    assert_eq!(script.drain(), [(10, Ran)]);
+    assert_eq!(script.view(), []);
+}
+
+#[test]
+fn p10_numbers_at_the_ends() {
+    let ins = |op, n| Instruction {
+        op,
+        n,
+        ..Instruction::default()
+    };
+    // Register 0 is set, changed and written.
+    let changed = |value: i32, change: Instruction, setting: i32| {
+        vec![ins(op::CONSTANT, value), change, ins(op::WRITE, setting)]
+    };
+    let one = Instruction {
+        a: 1,
+        ..ins(op::CONSTANT, 1)
+    };
+    let plus_one = Instruction {
+        c: 1,
+        ..ins(op::ADD, 0)
+    };
+    let mut script = Script::new(4);
+    script.take_in(10, &changed(i32::MIN, ins(op::NEGATE, 0), 20));
+    script.take_in(11, &[vec![one], changed(i32::MAX, plus_one, 21)].concat());
+    script.take_in(12, &changed(-5, ins(op::SHIFT_RIGHT, 1), 22));
+    script.take_in(13, &changed(-1, ins(op::COUNT_ONES, 0), 23));
+    script.drain();
+    let expected = [
+        (20, -2_147_483_648),
+        (21, -2_147_483_648),
+        (22, -3),
+        (23, 32),
+    ];
+    assert_eq!(script.view(), expected);
+}
+
+#[test]
+fn p11_a_change_before_one_that_depends_on_it() {
+    let mut script = Script::new(4);
+    script.take_in(10, &set(36, 400));
+    script.take_in(30, &take(36, 300, 37));
+    script.drain();
+    assert_eq!(script.view(), [(36, 100)]);
+    script.take_in(20, &take(36, 200, 37));
+    assert_eq!(script.drain(), [(20, Ran), (30, Ran)]);
+    assert_eq!(script.view(), [(36, -100), (37, 1)]);
+}
+
+// Document 01, "Class mistakes". P6 and P4 are the first and the third.
+
+#[test]
+fn a_write_that_vanishes_on_a_second_run_counts() {
+    let mut script = Script::new(4);
+    script.take_in(20, &if_zero(34, &set(50, 9)));
+    script.take_in(30, &copy(50, 60));
+    script.drain();
+    assert_eq!(script.view(), [(50, 9), (60, 9)]);
+    script.take_in(10, &set(34, 1));
+    assert_eq!(script.drain(), [(10, Ran), (20, Ran), (30, Ran)]);
+    assert_eq!(script.view(), [(34, 1)]);
+}
+
+/// "Dropping a faulted run's reads, so that it is never tried again."
+#[test]
+fn a_faulted_run_is_tried_again() {
+    let mut script = Script::new(4);
+    script.take_in(10, &set(34, -1));
+    script.take_in(20, &write_named_by(34));
+    assert_eq!(script.drain(), [(10, Ran), (20, Ran)]);
+    assert_eq!(script.reads(20), [(34, -1)]);
+    assert_eq!(script.view(), [(34, -1)]);
+    script.take_in(15, &set(34, 50));
+    assert_eq!(script.drain(), [(15, Ran), (20, Ran)]);
+    assert_eq!(script.view(), [(34, 50), (50, 50)]);
+}
+
+#[test]
+fn a_run_that_faults_again_or_for_the_first_time_writes_nothing() {
+    let mut script = Script::new(4);
+    script.take_in(10, &set(34, 50));
+    script.take_in(20, &write_named_by(34));
+    script.take_in(30, &copy(50, 60));
+    script.drain();
+    assert_eq!(script.view(), [(34, 50), (50, 50), (60, 50)]);
+    script.take_in(15, &set(34, 1024));
+    assert_eq!(script.drain(), [(15, Ran), (20, Ran), (30, Ran)]);
+    assert_eq!(script.view(), [(34, 1024)]);
+    script.withdraw(10);
+    assert_eq!(script.drain(), [(10, Cleared)]);
+    script.withdraw(15);
+    assert_eq!(script.drain(), [(15, Cleared), (20, Ran)]);
+    assert_eq!(script.view(), []);
+    assert_eq!(script.reads(20), [(34, 0)]);
+}
+
+// Which change has the turn.
+
+#[test]
+fn turns_go_by_timestamp_and_not_by_arrival() {
+    let mut script = Script::new(4);
+    for timestamp in [30, 1, u64::MAX - 1, 20] {
+        script.take_in(timestamp, &NOTHING);
+    }
+    assert_eq!(script.turn(), Some((1, Ran)));
+    assert_eq!(script.turn(), Some((20, Ran)));
+    assert_eq!(script.drain(), [(30, Ran), (u64::MAX - 1, Ran)]);
+    assert_eq!(script.turn(), None);
+}
+
+#[test]
+fn a_turn_is_idle_with_all_valid_and_alters_nothing() {
+    let mut tables = four_changes();
+    tables.status[2] = VALID;
+    tables.status[3] = VALID;
+    let before = tables.clone();
+    assert_eq!(turn(6, &mut tables), Ok(None));
+    assert_eq!(drain(6, &mut tables), Ok(Totals::default()));
+    assert_eq!(tables, before);
+}
+
+#[test]
+fn a_lower_arrival_between_turns_is_next() {
+    let mut script = Script::new(4);
+    script.take_in(20, &copy(34, 50));
+    script.take_in(30, &copy(50, 60));
+    assert_eq!(script.turn(), Some((20, Ran)));
+    script.take_in(10, &set(34, 7));
+    assert_eq!(script.drain(), [(10, Ran), (20, Ran), (30, Ran)]);
+    assert_eq!(script.view(), [(34, 7), (50, 7), (60, 7)]);
+}
+
+// Withdrawn changes.
+
+#[test]
+fn a_withdrawn_new_change_has_one_turn() {
+    let mut script = Script::new(4);
+    script.take_in(10, &set(34, 7));
+    script.withdraw(10);
+    assert_eq!(script.drain(), [(10, Cleared)]);
+    assert_eq!(script.view(), []);
+    assert_eq!(script.drain(), []);
+}
+
+#[test]
+fn the_writes_of_a_withdrawn_change_count_until_its_turn() {
+    let mut script = Script::new(4);
+    script.take_in(10, &set(34, 7));
+    script.drain();
+    script.withdraw(10);
+    script.take_in(5, &copy(34, 50));
+    script.take_in(20, &copy(34, 60));
+    assert_eq!(value_as_of(4, &script.tables, 15, 34), Ok(7));
+    assert_eq!(script.drain(), [(5, Ran), (10, Cleared), (20, Ran)]);
+    assert_eq!(script.view(), []);
+}
+
+#[test]
+fn a_withdrawn_change_is_cleared_although_its_seen_values_hold() {
+    let mut script = Script::new(4);
+    script.take_in(10, &copy(34, 50));
+    script.drain();
+    script.withdraw(10);
+    assert_eq!(script.drain(), [(10, Cleared)]);
+    assert_eq!(script.reads(10), []);
+}
+
+#[test]
+fn readers_of_a_withdrawn_write_run_again_unless_the_value_is_equal() {
+    let mut script = Script::new(4);
+    script.take_in(10, &set(34, 7));
+    script.take_in(20, &set(34, 7));
+    script.take_in(30, &copy(34, 50));
+    script.drain();
+    script.withdraw(20);
+    assert_eq!(script.drain(), [(20, Cleared)]);
+    script.withdraw(10);
+    assert_eq!(script.drain(), [(10, Cleared), (30, Ran)]);
+    assert_eq!(script.view(), []);
+}
+
+// The view.
+
+#[test]
+fn a_write_that_goes_leaves_the_previous_writers_value() {
+    let mut script = Script::new(4);
+    script.take_in(10, &set(34, 7));
+    script.take_in(20, &set(34, 9));
+    script.drain();
+    script.withdraw(20);
+    assert_eq!(script.drain(), [(20, Cleared)]);
+    assert_eq!(script.view(), [(34, 7)]);
+}
+
+/// "the figure says T ≥ Last-Writer, and only the figure is right when the last writer runs again."
+#[test]
+fn the_last_writer_runs_again() {
+    let mut script = Script::new(4);
+    script.take_in(10, &set(34, 7));
+    script.take_in(20, &copy(34, 50));
+    script.drain();
+    script.withdraw(10);
+    assert_eq!(script.drain(), [(10, Cleared), (20, Ran)]);
+    assert_eq!(script.view(), []);
+}
+
+#[test]
+fn a_later_writer_keeps_the_view() {
+    let mut script = Script::new(4);
+    script.take_in(10, &set(34, 1));
+    script.take_in(20, &copy(34, 50));
+    script.take_in(30, &set(50, 3));
+    script.drain();
+    script.take_in(15, &set(34, 2));
+    assert_eq!(script.drain(), [(15, Ran), (20, Ran)]);
+    assert_eq!(script.view(), [(34, 2), (50, 3)]);
+}
+
+// Marking.
+
+#[test]
+fn a_rewritten_equal_value_marks_nobody() {
+    let mut script = Script::new(4);
+    script.take_in(20, &[copy(34, 35), set(50, 9)].concat());
+    script.take_in(30, &copy(50, 60));
+    script.drain();
+    script.take_in(10, &set(34, 3));
+    assert_eq!(script.drain(), [(10, Ran), (20, Ran)]);
+    assert_eq!(script.view(), [(34, 3), (35, 3), (50, 9), (60, 9)]);
+}
+
+#[test]
+fn marks_made_in_a_drain_have_their_turn_in_it() {
+    let mut script = Script::new(8);
+    for timestamp in [20, 30, 40, 50] {
+        script.take_in(timestamp, &add(34, 1));
+    }
+    script.drain();
+    script.take_in(10, &set(34, 7));
+    let turns = [10, 20, 30, 40, 50].map(|timestamp| (timestamp, Ran));
+    assert_eq!(script.drain(), turns);
+    assert_eq!(script.view(), [(34, 11)]);
+}
+
+// Tables in form that calls need not reach.
+
+/// A change with a program that writes nothing.
+fn change(timestamp: u64, status: u16, reads: &[(u16, i32)], writes: &[(u16, i32)]) -> Change {
+    Change {
+        timestamp,
+        status,
+        reads: reads.to_vec(),
+        writes: writes.to_vec(),
+        ..Change::default()
+    }
+}
+
+#[test]
+fn an_invalid_change_without_reads_stood() {
+    let mut tables = tables(2, &[0], &[change(10, INVALID, &[], &[(34, 7)])]);
+    let mut expected = tables.clone();
+    expected.status[0] = VALID;
+    let answer = turn(2, &mut tables);
+    let timestamp = 10;
+    let turned = Stood;
+    assert_eq!(answer, Ok(Some(Turn { timestamp, turned })));
+    assert_eq!(tables, expected);
+}
+
+#[test]
+fn a_stood_change_keeps_lists_that_its_program_would_not_give() {
+    let changes = [
+        change(10, VALID, &[], &[(34, 7)]),
+        change(20, INVALID, &[(34, 7), (35, 0)], &[(60, 5), (34, 1)]),
+    ];
+    let mut tables = tables(2, &[0, 1], &changes);
+    let mut expected = tables.clone();
+    expected.status[1] = VALID;
+    let totals = Totals {
+        stood: 1,
+        ..Totals::default()
+    };
+    assert_eq!(drain(2, &mut tables), Ok(totals));
+    assert_eq!(tables, expected);
+}
+
+#[test]
+fn a_valid_withdrawn_change_with_lists_has_no_turn() {
+    let mut withdrawn = change(10, VALID, &[(35, 1)], &[(34, 7)]);
+    withdrawn.withdrawn = 1;
+    let mut tables = tables(2, &[0], &[withdrawn]);
+    let before = tables.clone();
+    assert_eq!(drain(2, &mut tables), Ok(Totals::default()));
+    assert_eq!(tables, before);
+}
+
+#[test]
+fn only_changed_settings_without_a_later_writer_are_stored_to_a_wrong_view() {
+    let changes = [
+        Change {
+            program: [set(34, 1), set(35, 2), set(36, 0)].concat(),
+            ..change(10, NEW, &[], &[])
+        },
+        change(20, VALID, &[], &[(35, 9)]),
+    ];
+    let mut tables = tables(2, &[0, 1], &changes);
+    tables.view.fill(-1);
+    let mut expected = tables.view.clone();
+    expected[34] = 1;
+    assert_eq!(drain(2, &mut tables).map(|totals| totals.ran), Ok(1));
+    assert_eq!(tables.view, expected);
+}
+
+/// The lowest writer above T is the last one to be marked, and only Valid changes are.
+#[test]
+fn marking_goes_through_the_next_writer() {
+    let reader = |timestamp, status| change(timestamp, status, &[(34, 5)], &[]);
+    let mut both = reader(40, VALID);
+    both.writes = vec![(34, 6)];
+    let changes = [
+        reader(60, VALID),
+        both,
+        reader(20, VALID),
+        change(10, INVALID, &[(99, 1)], &[(34, 5)]),
+        reader(5, VALID),
+        reader(50, VALID),
+        change(30, NEW, &[], &[]),
+    ];
+    let mut tables = tables(7, &[4, 3, 2, 6, 1, 5, 0], &changes);
+    let answer = turn(7, &mut tables);
+    let timestamp = 10;
+    let turned = Ran;
+    assert_eq!(answer, Ok(Some(Turn { timestamp, turned })));
+    let expected = [VALID, INVALID, INVALID, VALID, VALID, VALID, NEW];
+    assert_eq!(tables.status, expected);
+    // The write of 34 is gone, and change 40 writes it later.
+    assert_eq!(tables.writes, [0, 1, 0, 0, 0, 0, 0]);
+    assert_eq!(tables.view, Tables::new(7).view);
+}
+
+#[test]
+fn slots_behind_shorter_lists_become_0() {
+    let long: Vec<(u16, i32)> = (0..32).map(|i| (100 + i, -1)).collect();
+    let mut invalid = change(10, INVALID, &long, &long);
+    invalid.program = copy(34, 50);
+    let mut tables = tables(2, &[0], &[invalid]);
+    assert_eq!(drain(2, &mut tables).map(|totals| totals.ran), Ok(1));
+    let mut expected = Change {
+        program: copy(34, 50),
+        ..change(10, VALID, &[(34, 0)], &[(50, 0)])
+    };
+    assert_eq!(
+        tables,
+        crate::examples::tables(2, &[0], &[expected.clone()])
+    );
+    tables.status[0] = INVALID;
+    tables.withdrawn[0] = 1;
+    assert_eq!(drain(2, &mut tables).map(|totals| totals.cleared), Ok(1));
+    expected.withdrawn = 1;
+    expected.reads.clear();
+    expected.writes.clear();
+    assert_eq!(tables, crate::examples::tables(2, &[0], &[expected]));
+}
+
+#[test]
+fn turn_and_drain_refuse_1_then_2_and_alter_nothing() {
+    let mut tables = four_changes();
+    tables.status[0] = 3;
+    let broken = tables.clone();
+    for (n, refusal) in [(5, Refusal::Length), (6, Refusal::Form)] {
+        assert_eq!(turn(n, &mut tables), Err(refusal));
+        assert_eq!(drain(n, &mut tables), Err(refusal));
+        assert_eq!(tables, broken);
+    }
+}
+
+#[test]
+fn a_drain_of_four_changes() {
+    let mut tables = four_changes();
+    let totals = drain(6, &mut tables);
+    // Change 20 sets 34 to 9 and has 30 run again; 40 is withdrawn.
+    let expected = Totals {
+        ran: 2,
+        stood: 0,
+        cleared: 1,
+    };
+    assert_eq!(totals, Ok(expected));
+    assert_eq!(tables.view[34], 9);
+    assert_eq!(tables.view[50], 9);
+}

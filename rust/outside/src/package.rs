@@ -1,0 +1,99 @@
+//! The layout of a package, and the call that takes one in.
+//!
+//! Document 01, "Calls", and refusal 3 of "Turned down, in checking order".
+
+use crate::calls::{check, refuse_unless, Refusal};
+use crate::intake::{take_in_checked, withdraw_checked, Taken};
+use crate::program::{INSTRUCTION_BYTES, MAX_INSTRUCTIONS};
+use crate::tables::Tables;
+
+/// "Its length is at most 65,535".
+pub const MAX_BYTES: usize = 65_535;
+
+/// "a 16-bit count k, 0 to 512".
+pub const MAX_ENTRIES: usize = 512;
+
+/// "then k entries of 12 bytes".
+pub const ENTRY_BYTES: usize = 12;
+
+/// "a lent slice of 512 answer bytes".
+pub const ANSWERS: usize = 512;
+
+/// An answer byte: "0 done, 255 already held, else the refusal".
+pub const DONE: u8 = 0;
+
+/// An answer byte.
+pub const ALREADY_HELD: u8 = 255;
+
+/// An entry of a package, with its body.
+#[derive(Clone, Debug, PartialEq, Eq)]
+#[allow(missing_docs)]
+pub enum Entry {
+    Change { timestamp: u64, program: Vec<u8> },
+    Withdrawal { timestamp: u64 },
+}
+
+/// The entries of a package, or none if it "breaks its layout or length".
+///
+/// "A package begins with its contents: a 16-bit count k, 0 to 512, then k entries of 12 bytes:
+/// timestamp (8), kind (0 change, 1 withdrawal), instruction count (0 to 32, and 0 for a
+/// withdrawal), two zero bytes. Bodies follow in that order without gaps. All numbers are low byte
+/// first. Its length is at most 65,535 and fits exactly."
+pub fn entries(package: &[u8]) -> Option<Vec<Entry>> {
+    let (&count, rest) = package.split_first_chunk()?;
+    let count = usize::from(u16::from_le_bytes(count));
+    if package.len() > MAX_BYTES || count > MAX_ENTRIES {
+        return None;
+    }
+    let (contents, mut bodies) = rest.split_at_checked(ENTRY_BYTES * count)?;
+    let (contents, _) = contents.as_chunks::<ENTRY_BYTES>();
+    let mut entries = Vec::with_capacity(count);
+    for &[t0, t1, t2, t3, t4, t5, t6, t7, kind, instructions, zero, zero_too] in contents {
+        let timestamp = u64::from_le_bytes([t0, t1, t2, t3, t4, t5, t6, t7]);
+        let instructions = usize::from(instructions);
+        if instructions > MAX_INSTRUCTIONS || zero != 0 || zero_too != 0 {
+            return None;
+        }
+        entries.push(match kind {
+            0 => {
+                let (body, after) = bodies.split_at_checked(INSTRUCTION_BYTES * instructions)?;
+                bodies = after;
+                let program = body.to_vec();
+                Entry::Change { timestamp, program }
+            }
+            1 if instructions == 0 => Entry::Withdrawal { timestamp },
+            _ => return None,
+        });
+    }
+    bodies.is_empty().then_some(entries)
+}
+
+/// "Entries are carried out in order into a lent slice of 512 answer bytes: 0 done, 255 already
+/// held, else the refusal; later bytes keep their contents, and a refused entry stops nothing."
+pub fn take_in_package(
+    n: usize,
+    tables: &mut Tables,
+    package: &[u8],
+    answers: &mut [u8],
+) -> Result<(), Refusal> {
+    refuse_unless(answers.len() == ANSWERS, Refusal::Length)?;
+    check(n, tables)?;
+    let entries = entries(package).ok_or(Refusal::Package)?;
+    for (answer, entry) in answers.iter_mut().zip(entries) {
+        let taken = match entry {
+            Entry::Change { timestamp, program } => take_in_checked(tables, timestamp, &program),
+            Entry::Withdrawal { timestamp } => {
+                withdraw_checked(tables, timestamp).map(|()| Taken::Done)
+            }
+        };
+        *answer = match taken {
+            Ok(Taken::Done) => DONE,
+            Ok(Taken::AlreadyHeld) => ALREADY_HELD,
+            Err(refusal) => refusal.number(),
+        };
+    }
+    Ok(())
+}
+
+#[cfg(test)]
+mod tests;

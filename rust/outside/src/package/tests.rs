@@ -1,0 +1,294 @@
+use super::*;
+use crate::examples::{
+    assemble, copy, four_changes, package, package_of_70_bytes, set, tables, Change,
+};
+use crate::program::Instruction;
+
+/// A program of so many stops.
+fn stops(count: usize) -> Vec<Instruction> {
+    vec![Instruction::default(); count]
+}
+
+/// A package of `count` entries, each a change without instructions, that has a body of `last`
+/// instructions behind the last of them.
+fn with_count(count: usize, last: usize) -> Vec<u8> {
+    let body = stops(last);
+    let mut entries: Vec<(u64, u8, &[Instruction])> = Vec::new();
+    for timestamp in 1..=count as u64 {
+        let last = timestamp == count as u64;
+        entries.push((timestamp, 0, if last { &body } else { &[] }));
+    }
+    package(&entries)
+}
+
+/// A package of `full` changes of 32 instructions and one of `rest`.
+fn with_bodies(full: usize, rest: usize) -> Vec<u8> {
+    let (whole, part) = (stops(32), stops(rest));
+    let mut entries: Vec<(u64, u8, &[Instruction])> = Vec::new();
+    for timestamp in 1..=full as u64 {
+        entries.push((timestamp, 0, &whole));
+    }
+    entries.push((full as u64 + 1, 0, &part));
+    package(&entries)
+}
+
+/// The tables and the answers that a package, which must be taken in, leaves where all answers were
+/// 99.
+#[track_caller]
+fn taken_in(n: usize, mut tables: Tables, package: &[u8]) -> (Tables, Vec<u8>) {
+    let mut answers = vec![99; ANSWERS];
+    let answer = take_in_package(n, &mut tables, package, &mut answers);
+    assert_eq!(answer, Ok(()));
+    (tables, answers)
+}
+
+/// That the package is refused so, and alters neither the tables nor the answers.
+#[track_caller]
+fn assert_refused(n: usize, tables: &Tables, package: &[u8], length: usize, refusal: Refusal) {
+    let mut lent = tables.clone();
+    let mut answers = vec![99; length];
+    let answer = take_in_package(n, &mut lent, package, &mut answers);
+    assert_eq!(answer, Err(refusal));
+    assert_eq!(lent, *tables);
+    assert_eq!(answers, vec![99; length]);
+}
+
+// Layout.
+
+#[test]
+fn the_70_bytes_have_three_entries() {
+    let package = package_of_70_bytes();
+    let expected = vec![
+        Entry::Change {
+            timestamp: 20,
+            program: assemble(&copy(34, 50)),
+        },
+        Entry::Change {
+            timestamp: 10,
+            program: assemble(&set(34, 7)),
+        },
+        Entry::Withdrawal { timestamp: 15 },
+    ];
+    assert_eq!(entries(&package), Some(expected));
+}
+
+#[test]
+fn numbers_are_low_byte_first() {
+    let mut package = package(&[(0x0807_0605_0403_0201, 1, &[])]);
+    assert_eq!(package, [1, 0, 1, 2, 3, 4, 5, 6, 7, 8, 1, 0, 0, 0]);
+    let expected = Entry::Withdrawal {
+        timestamp: 0x0807_0605_0403_0201,
+    };
+    assert_eq!(entries(&package), Some(vec![expected]));
+    // 256 entries, of which one is there.
+    package[..2].copy_from_slice(&[0, 1]);
+    assert_eq!(entries(&package), None);
+}
+
+#[test]
+fn less_than_a_count_is_no_package() {
+    for bytes in [&[][..], &[0], &[1]] {
+        assert_eq!(entries(bytes), None);
+    }
+}
+
+#[test]
+fn a_package_of_no_entries_has_two_bytes() {
+    assert_eq!(entries(&[0, 0]), Some(vec![]));
+    assert_eq!(entries(&[0, 0, 0]), None);
+}
+
+#[test]
+fn a_package_has_0_to_512_entries() {
+    for count in [1, 2, 255, 256, 257, 511, 512] {
+        let entries = entries(&with_count(count, 0)).expect("the layout is right");
+        assert_eq!(entries.len(), count);
+    }
+    for count in [513, 514, 1024, 4096, 5461] {
+        assert_eq!(entries(&with_count(count, 0)), None, "{count}");
+    }
+}
+
+#[test]
+fn one_byte_or_one_instruction_too_few_or_too_many_is_no_package() {
+    for good in [
+        package_of_70_bytes(),
+        package(&[(1, 1, &[])]),
+        with_count(512, 32),
+    ] {
+        assert!(entries(&good).is_some());
+        for length in (0..good.len()).rev().take(80) {
+            assert_eq!(entries(&good[..length]), None, "{length}");
+        }
+        for more in [1, 2, 7, 8, 12, 256] {
+            let mut longer = good.clone();
+            longer.resize(good.len() + more, 0);
+            assert_eq!(entries(&longer), None, "{more}");
+        }
+    }
+}
+
+#[test]
+fn the_kind_is_0_or_1() {
+    let mut package = package_of_70_bytes();
+    // The kind of the withdrawal: as a change it has no instructions.
+    let kind = 2 + 2 * ENTRY_BYTES + 8;
+    package[kind] = 0;
+    assert!(entries(&package).is_some());
+    for wrong in 2..=255 {
+        package[kind] = wrong;
+        assert_eq!(entries(&package), None, "{wrong}");
+    }
+}
+
+#[test]
+fn a_change_has_0_to_32_instructions() {
+    for count in 0..=32 {
+        assert!(entries(&package(&[(1, 0, &stops(count))])).is_some());
+    }
+    for count in [33, 34, 64, 255] {
+        assert_eq!(entries(&package(&[(1, 0, &stops(count))])), None, "{count}");
+    }
+}
+
+#[test]
+fn a_withdrawal_has_no_instructions() {
+    for count in [1, 2, 32, 33] {
+        assert_eq!(entries(&package(&[(1, 1, &stops(count))])), None, "{count}");
+        let mut without_body = package(&[(1, 1, &[])]);
+        without_body[11] = count as u8;
+        assert_eq!(entries(&without_body), None, "{count}");
+    }
+}
+
+#[test]
+fn two_bytes_of_an_entry_are_0() {
+    for entry in 0..3 {
+        for byte in [10, 11] {
+            for wrong in [1, 128, 255] {
+                let mut package = package_of_70_bytes();
+                package[2 + ENTRY_BYTES * entry + byte] = wrong;
+                assert_eq!(entries(&package), None);
+            }
+        }
+    }
+}
+
+/// "Its length is at most 65,535 and fits exactly." A length that fits leaves 2 modulo 4, so 65,534
+/// is the longest.
+#[test]
+fn the_length_is_at_most_65535() {
+    let longest = with_bodies(244, 16);
+    assert_eq!(longest.len(), 65_534);
+    assert!(entries(&longest).is_some());
+    for length in [65_533, 65_535, 65_536, 70_000] {
+        let mut other = longest.clone();
+        other.resize(length, 0);
+        assert_eq!(entries(&other), None, "{length}");
+    }
+    let over = with_bodies(244, 17);
+    assert_eq!(over.len(), 65_542);
+    assert_eq!(entries(&over), None);
+    assert_eq!(entries(&with_bodies(511, 32)), None);
+}
+
+/// The timestamp and the instructions are not part of the layout.
+#[test]
+fn timestamps_and_instructions_are_not_tested() {
+    let wrong = Instruction {
+        op: 99,
+        ..Instruction::default()
+    };
+    for timestamp in [0, u64::MAX] {
+        assert!(entries(&package(&[(timestamp, 0, &[wrong])])).is_some());
+        assert!(entries(&package(&[(timestamp, 1, &[])])).is_some());
+    }
+}
+
+// Taking in.
+
+#[test]
+fn the_70_bytes_are_taken_in() {
+    let (left, answers) = taken_in(4, Tables::new(4), &package_of_70_bytes());
+    let change = |timestamp, program| Change {
+        timestamp,
+        program,
+        ..Change::default()
+    };
+    let changes = [change(20, copy(34, 50)), change(10, set(34, 7))];
+    assert_eq!(left, tables(4, &[1, 0], &changes));
+    assert_eq!(answers[..3], [0, 0, 10]);
+    assert_eq!(answers[3..], [99; 509]);
+}
+
+#[test]
+fn every_answer_of_an_entry() {
+    let malformed = Instruction {
+        op: 18,
+        ..Instruction::default()
+    };
+    let package = package(&[
+        (15, 1, &[]),
+        (15, 0, &set(34, 1)),
+        (15, 0, &set(34, 1)),
+        (15, 1, &[]),
+        (15, 0, &set(34, 1)),
+        (15, 1, &[]),
+        (15, 0, &set(34, 2)),
+        (15, 0, &[malformed]),
+        (16, 0, &[malformed]),
+        (0, 0, &[malformed]),
+        (u64::MAX, 1, &[]),
+        (17, 0, &[]),
+        (18, 0, &[]),
+        (17, 0, &[]),
+        (30, 1, &[]),
+        (40, 1, &[]),
+    ]);
+    let (tables, answers) = taken_in(6, four_changes(), &package);
+    let expected = [10, 0, 255, 0, 255, 11, 8, 7, 7, 4, 4, 0, 9, 255, 0, 11];
+    assert_eq!(answers[..16], expected);
+    assert_eq!(answers[16..], [99; 496]);
+    assert_eq!(tables.timestamps, [30, 10, 40, 20, 15, 17]);
+    assert_eq!(tables.withdrawn, [1, 0, 1, 0, 1, 0]);
+    assert_eq!(tables.status, [2, 1, 2, 0, 0, 0]);
+}
+
+#[test]
+fn a_package_of_no_entries_touches_nothing() {
+    let (tables, answers) = taken_in(6, four_changes(), &[0, 0]);
+    assert_eq!(tables, four_changes());
+    assert_eq!(answers, [99; ANSWERS]);
+}
+
+#[test]
+fn a_package_of_512_entries_has_512_answers() {
+    let (tables, answers) = taken_in(500, Tables::new(500), &with_count(512, 3));
+    assert_eq!(answers[..500], [0; 500]);
+    assert_eq!(answers[500..], [9; 12]);
+    assert_eq!(tables.held, [500]);
+}
+
+#[test]
+fn a_package_is_refused_1_then_2_then_3() {
+    let mut tables = four_changes();
+    let good = package_of_70_bytes();
+    let bad = &good[..69];
+    assert_refused(6, &tables, bad, ANSWERS, Refusal::Package);
+    tables.status[0] = 3;
+    assert_refused(6, &tables, bad, ANSWERS, Refusal::Form);
+    assert_refused(6, &tables, &good, ANSWERS, Refusal::Form);
+    assert_refused(5, &tables, bad, ANSWERS, Refusal::Length);
+    for length in [0, 3, 511, 513, 1024] {
+        assert_refused(6, &tables, bad, length, Refusal::Length);
+        assert_refused(6, &four_changes(), &good, length, Refusal::Length);
+    }
+}
+
+/// The layout is tested whole before any entry is carried out.
+#[test]
+fn a_breach_in_the_last_entry_leaves_the_first_out() {
+    let mut package = package_of_70_bytes();
+    package[2 + 2 * ENTRY_BYTES + 11] = 1;
+    assert_refused(4, &Tables::new(4), &package, ANSWERS, Refusal::Package);
+}
