@@ -1,4 +1,5 @@
-//! Has the exports proved and built as static libraries, and links those.
+//! Has the exports proved and built as static libraries, and links those; has the program `cabinet`
+//! proved and built, and tells the tests where it is.
 
 use std::path::{Path, PathBuf};
 use std::process::{exit, Command};
@@ -15,32 +16,34 @@ fn main() {
     let out = variable("OUT_DIR");
     println!("cargo::rustc-link-search=native={}", out.display());
     for library in LIBRARIES {
-        build(library, &root, &out);
+        let archive = format!("target/staticlib/lib{library}.a");
+        build("staticlib", library, &archive, &root, &out);
         println!("cargo::rustc-link-lib=static={library}");
     }
+    let program = build("check", "cabinet", "target/bin/cabinet", &root, &out);
+    println!("cargo::rustc-env=CABINET={}", program.display());
 }
 
-/// Leaves the static library in `out`.
-fn build(library: &str, root: &Path, out: &Path) {
+/// Has `rt` carry out this command for a crate, and returns a copy in `out` of the file that it
+/// leaves.
+fn build(command: &str, name: &str, file: &str, root: &Path, out: &Path) -> PathBuf {
     let built = Command::new("rt")
-        .args(["staticlib", library])
+        .args([command, name])
         .current_dir(root)
         .status();
     match built {
         Ok(status) if status.success() => {}
-        Ok(status) => fail(&format!("`rt staticlib {library}` failed: {status}")),
-        Err(error) => fail(&format!("cannot run `rt staticlib {library}`: {error}")),
+        Ok(status) => fail(&format!("`rt {command} {name}` failed: {status}")),
+        Err(error) => fail(&format!("cannot run `rt {command} {name}`: {error}")),
     }
 
-    // `rt ci` removes the repository's target folder, so the archive is linked from a copy.
-    let file = format!("lib{library}.a");
-    let archive = Path::new("target/staticlib").join(&file);
-    if let Err(error) = fs::copy(root.join(&archive), out.join(&file)) {
-        fail(&format!(
-            "`rt staticlib {library}` left no {}: {error}",
-            archive.display()
-        ));
+    // `rt ci` removes the repository's target folder, so a copy is linked or run.
+    let built = root.join(file);
+    let copy = out.join(built.file_name().expect("this is the path of a file"));
+    if let Err(error) = fs::copy(&built, &copy) {
+        fail(&format!("`rt {command} {name}` left no {file}: {error}"));
     }
+    copy
 }
 
 fn variable(name: &str) -> PathBuf {

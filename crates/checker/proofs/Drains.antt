@@ -58,7 +58,8 @@ sums-next (ran t l) m n = let e : m .ran + 1 + n .ran ≡ m .ran + suc (n .ran) 
 sums-next (stood t) m n = let e : m .stood + 1 + n .stood ≡ m .stood + suc (n .stood) = omega arith in λ j. three (m .ran + n .ran) (e j) (m .cleared + n .cleared)
 sums-next (cleared t) m n = let e : m .cleared + 1 + n .cleared ≡ m .cleared + suc (n .cleared) = omega arith in λ j. three (m .ran + n .ran) (m .stood + n .stood) (e j)
 
-event-goes-on : (e : Event) → goesOn (eventAnswer e) ≡ true
+-- a turn that is not idle
+pub event-goes-on : (e : Event) → goesOn (eventAnswer e) ≡ true
 event-goes-on (ran t l) = refl
 event-goes-on (stood t) = refl
 event-goes-on (cleared t) = refl
@@ -70,7 +71,7 @@ total-within (ran t l ∷ events) = let rest = total-within events in omega arit
 total-within (stood t ∷ events) = let rest = total-within events in omega arith
 total-within (cleared t ∷ events) = let rest = total-within events in omega arith
 
-drain-within : (k : ℕ) (env : Environment) (h : History) (view : List ℤ) → length (drainFor k env h view .events) ≤ k
+pub drain-within : (k : ℕ) (env : Environment) (h : History) (view : List ℤ) → length (drainFor k env h view .events) ≤ k
 unfolding drainFor
 drain-within zero env h view = omega arith
 drain-within (suc k) env h view = go (drain-within k env) (round env h view)

@@ -99,7 +99,7 @@ fn counted(totals: Totals, answer: Turned) -> Totals
 }
 
 // Whether a drain goes on after a turn.
-fn goes_on(answer: Turned) -> bool
+pub fn goes_on(answer: Turned) -> bool
     ensures { λ r. ⌜ r ≡ goesOn answer ⌝ }
 {
     match answer {

@@ -1,11 +1,12 @@
--- Laws of the code's tests: of a number against a limit, of a distance, and of every place below a limit.
-use mathlib.Core.Path.{_≡_, refl}
-use mathlib.Core.Bool.{Bool, true, false}
+-- Laws of the code's tests: of a number against a limit, of a distance, of every place below a limit, and of gathered bits.
+use mathlib.Core.Path.{_≡_, refl, ap, _∙_}
+use mathlib.Core.Bool.{Bool, true, false, _&&_}
 use Prim.Native.Nat.{ℕ, _+_, _-_, _<_}
 use native.Mathlib.Omega.{arith}
 use native.Mathlib.Numerals.{add-one}
-use borrow.Author.Tests.{ltb-true, leb-true, leb-false, lt-ltb, le-ltb}
-use lib.Dec.{T, ltb, leb}
+use borrow.Author.Tests.{ltb-true, leb-true, leb-false, lt-ltb, le-ltb, eqb-true, eqb-false, ne-eqb}
+use lib.Bits.{bitOr, or-zero-l, or-add-and, and-le-r}
+use lib.Dec.{T, ltb, leb, eqb}
 use lib.IntN.{ℤ, pos, negsuc, natAbs}
 use lib.Signed.{ltZ, nonNeg}
 use mir.Syntax.{w32, w64}
@@ -41,3 +42,11 @@ distance-below (negsuc n) place count = refl
 pub all-below-next : (k : ℕ) (test : ℕ → Bool) → allBelow k test ≡ true → test k ≡ true → allBelow (k + 1) test ≡ true
 unfolding allBelow
 all-below-next k test e q = rw (add-one, e, q)
+
+-- the or of two numbers is 0 where both are
+pub or-zero : (a b : ℕ) → eqb (bitOr a b) 0 ≡ (eqb a 0 && eqb b 0)
+or-zero a b = go (eqb a 0) refl
+  where
+    go : (t : Bool) → eqb a 0 ≡ t → eqb (bitOr a b) 0 ≡ (t && eqb b 0)
+    go true e = ap (λ (x : ℕ). eqb (bitOr x b) 0) (eqb-true a 0 e) ∙ ap (λ (x : ℕ). eqb x 0) (or-zero-l b)
+    go false e = ne-eqb (bitOr a b) 0 (λ q. eqb-false a 0 e (omega (arith, or-add-and a b, and-le-r a b)))

@@ -1,5 +1,6 @@
 pub mod Bounds
 pub mod Numbers
+pub mod Masks
 pub mod Registers
 pub mod Entries
 pub mod Steps

@@ -33,19 +33,15 @@ in-range P first (suc count) e k a b = go (decLt first k) (in-range P (suc first
     go (yes q) ih = ih q (omega arith)
     go (no q) ih = let w : first ≡ k = omega arith in subst P w (e .0)
 
--- n is none of the numbers from 1 to k
-abbrev pub Apart : ℕ → ℕ → Type 0
-Apart n zero = Unit {0}
-Apart n (suc k) = Apart n k × (n ≡ suc k → ⊥)
+-- n is none of k numbers from a first one on
+abbrev pub Apart : ℕ → ℕ → ℕ → Type 0
+Apart first n zero = Unit {0}
+Apart first n (suc k) = Apart first n k × (n ≡ first + k → ⊥)
 
--- such a number is above k
-apart-above : (n k : ℕ) → Apart n k → 1 ≤ n → k < n
-apart-above n zero a h = h
-apart-above n (suc k) a h = omega (arith, apart-above n k (a .0) h, a .1)
-
--- the number that is left where all below it are ruled out
-pub last-left : (n k : ℕ) → Apart n k → 1 ≤ n → n < suc (suc k) → n ≡ suc k
-last-left n k a h b = omega (arith, apart-above n k a h)
+-- such a number that is not below the first is past them all
+pub apart-above : (first n k : ℕ) → Apart first n k → first ≤ n → first + k ≤ n
+apart-above first n zero a h = omega arith
+apart-above first n (suc k) a h = omega (arith, apart-above first n k (a .0) h, a .1)
 
 -- a signed number as the machine reads it back from its bits
 abbrev pub read : ℤ → ℤ

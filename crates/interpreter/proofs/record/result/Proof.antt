@@ -1,9 +1,10 @@
 -- `interpreter::record::result` meets its contract: each way out is a case of the table. Assumes nothing.
+use mathlib.Core.Path.{_≡_}
 use native.Mathlib.Omega.{arith}
 use borrow.Author.Needs.{sfits-of}
 use mir.Facts.{toZ-ofZ}
 use Rattle.machine.specs.Run.{shiftRight}
-use Rattle.interpreter.proofs.Numbers.{last-left, below-limit, below-cast}
+use Rattle.interpreter.proofs.Numbers.{apart-above, below-limit, below-cast}
 use Rattle.interpreter.proofs.record.result.Statement.{statement}
 use Rattle.interpreter.proofs.record.result.Tie as tie
 
@@ -54,7 +55,8 @@ returns-9 c =
 returns-10 : tie.Need-returns-10
 returns-10 c =
     let s = c .before .before in
-    rw (toZ-ofZ (sfits-of (c .bit-xor .ok)), c .bit-xor .ensures, toZ-ofZ (s .fits .x), toZ-ofZ (s .fits .y), last-left _ 9 (c .before .match .rest) (s .pre .0) (s .pre .1))
+    let last : s .args .operation ≡ 10 = omega (arith, apart-above 1 (s .args .operation) 9 (c .before .match .rest) (s .pre .0)) in
+    rw (toZ-ofZ (sfits-of (c .bit-xor .ok)), c .bit-xor .ensures, toZ-ofZ (s .fits .x), toZ-ofZ (s .fits .y), last)
 
 pub result-spec : {M : Type 1} → statement M
 result-spec =

@@ -1,0 +1,174 @@
+//! The program `cabinet` against the outside implementation's listing.
+
+use comparison::generate::packages::{self, lay_out, Breach};
+use comparison::generate::scripts::Source;
+use comparison::generate::{self, Random};
+use outside::cabinet::{listing, CAPACITY};
+use outside::package::{Entry, MAX_BYTES};
+use outside::program::{op, Instruction};
+use std::io::Write;
+use std::process::{Command, Stdio};
+use std::thread;
+use std::time::Duration;
+
+/// How many random packages the program is run on.
+const PACKAGES: usize = 200;
+
+/// What the program writes to standard output where its input comes in pieces of so many bytes, with
+/// a pause before each.
+fn run(input: &[u8], piece: usize, pause: Duration) -> String {
+    let mut child = Command::new(env!("CABINET"))
+        .stdin(Stdio::piped())
+        .stdout(Stdio::piped())
+        .spawn()
+        .expect("the program starts");
+    let mut stdin = child.stdin.take().expect("its input is piped");
+    for piece in input.chunks(piece) {
+        thread::sleep(pause);
+        // The program may end before it has read all of an input that is too long.
+        if stdin.write_all(piece).is_err() {
+            break;
+        }
+    }
+    drop(stdin);
+    let output = child.wait_with_output().expect("the program ends");
+    assert!(output.status.success(), "{}", output.status);
+    String::from_utf8(output.stdout).expect("it writes ASCII")
+}
+
+#[track_caller]
+fn assert_listed(input: &[u8]) -> String {
+    let expected = listing(input);
+    let written = run(input, input.len().max(1), Duration::ZERO);
+    assert!(written == expected, "{written}instead of\n{expected}");
+    written
+}
+
+/// Document 01's package of 70 bytes.
+fn package_of_70_bytes() -> Vec<u8> {
+    let program = |first, n, setting| {
+        let parts = [(first, n), (op::WRITE, setting)];
+        let instruction = |(op, n)| Instruction {
+            op,
+            n,
+            ..Instruction::default()
+        };
+        parts
+            .map(instruction)
+            .iter()
+            .flat_map(|i| i.to_bytes())
+            .collect()
+    };
+    lay_out(&[
+        Entry::Change {
+            timestamp: 20,
+            program: program(op::READ, 34, 50),
+        },
+        Entry::Change {
+            timestamp: 10,
+            program: program(op::CONSTANT, 7, 34),
+        },
+        Entry::Withdrawal { timestamp: 15 },
+    ])
+}
+
+#[test]
+fn the_70_bytes_are_listed_as_in_document_01() {
+    let package = package_of_70_bytes();
+    assert_eq!(package.len(), 70);
+    let expected = "\
+entry 0 taken
+entry 1 taken
+entry 2 refused 10
+turn 10 ran
+turn 20 ran
+setting 34 7
+setting 50 7
+";
+    assert_eq!(assert_listed(&package), expected);
+}
+
+/// The pause lets the program read a piece before the next one comes; the answer is the same
+/// without.
+#[test]
+fn input_may_come_in_pieces() {
+    let package = package_of_70_bytes();
+    for piece in [1, 2, 13, 69] {
+        let pause = Duration::from_millis(5);
+        assert_eq!(run(&package, piece, pause), listing(&package), "{piece}");
+    }
+}
+
+#[test]
+fn random_packages_are_listed() {
+    let random = &mut Random::new(generate::seed());
+    let [mut turns, mut cleared, mut settings, mut full] = [0; 4];
+    for index in 0..PACKAGES {
+        let mut entries = packages::entries(random, &[]);
+        if index % 2 == 0 {
+            // Programs that read and write the same settings.
+            let source = Source::new(random, CAPACITY);
+            for entry in &mut entries {
+                if let Entry::Change { program, .. } = entry {
+                    *program = source.program(random);
+                }
+            }
+        }
+        let written = assert_listed(&lay_out(&entries));
+        let lines = |text: &str| written.lines().filter(|line| line.contains(text)).count();
+        turns += lines(" ran");
+        cleared += lines(" cleared");
+        settings += lines("setting ");
+        full += lines(" refused 9");
+    }
+    println!("{turns} ran, {cleared} cleared, {settings} settings, {full} refused 9");
+    for count in [turns, cleared, settings, full] {
+        assert!(count >= PACKAGES / 4, "{count}");
+    }
+}
+
+#[test]
+fn bad_packages_give_one_line() {
+    let random = &mut Random::new(generate::seed());
+    for breach in Breach::ALL {
+        let mut package = package_of_70_bytes();
+        let made = breach.make(random, &mut package);
+        assert_eq!(made, Some(()));
+        assert_eq!(assert_listed(&package), "package refused 3\n", "{breach:?}");
+    }
+    for length in [
+        0,
+        1,
+        2,
+        69,
+        71,
+        MAX_BYTES - 1,
+        MAX_BYTES,
+        MAX_BYTES + 1,
+        200_000,
+    ] {
+        let mut package = package_of_70_bytes();
+        package.resize(length, 0);
+        assert_eq!(assert_listed(&package), "package refused 3\n", "{length}");
+    }
+}
+
+/// Inputs of 65,534 bytes, which is the longest package, and of one byte more.
+#[test]
+fn the_longest_package_is_listed() {
+    let change = |timestamp| Entry::Change {
+        timestamp,
+        program: vec![0; if timestamp == 245 { 128 } else { 256 }],
+    };
+    let mut package = lay_out(&(1..=245).map(change).collect::<Vec<_>>());
+    assert_eq!(package.len(), MAX_BYTES - 1);
+    let written = assert_listed(&package);
+    assert!(written.contains("entry 244 refused 9\n"), "{written}");
+    package.push(0);
+    assert_eq!(assert_listed(&package), "package refused 3\n");
+}
+
+#[test]
+fn a_package_of_no_entries_gives_nothing() {
+    assert_eq!(assert_listed(&[0, 0]), "");
+}
