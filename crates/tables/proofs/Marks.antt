@@ -1,17 +1,18 @@
 -- The test that no setting stands twice, which goes up a list from its end and marks what it meets.
-use mathlib.Core.Path.{_≡_, refl, sym, _∙_}
-use mathlib.Core.Bool.{true, false, _||_, and-false}
+use mathlib.Core.Path.{_≡_, refl, sym, ap, _∙_}
+use mathlib.Core.Bool.{Bool, true, false, not, and-true, and-false, cond}
 use mathlib.Core.List.{List, [], _∷_}
-use Prim.Native.Nat.{ℕ, zero, suc, _+_, _-_, _≤_, _<_}
+use Prim.Native.Nat.{ℕ, zero, suc, _+_, _≤_, _<_}
 use native.Mathlib.Decide.{ℕ-discrete}
 use native.Mathlib.Omega.{arith}
-use borrow.Author.Tests.{eq-eqb, ne-eqb, lt-ltb, le-ltb}
-use lib.Dec.{eqb}
+use borrow.Author.Tests.{ltb-true, eq-eqb, ne-eqb}
+use lib.Dec.{ltb, eqb}
 use lib.ListN.{length, getD, set, drop, replicate, length-set, drop-of-length-le}
 use lib.Seq.{drop-cons, getD-set-same, getD-set-other}
 use Rattle.machine.specs.Settings.{settingCount}
+use Rattle.machine.proofs.Cases.{both}
 use Rattle.model.specs.Form.{holds, distinctSettings}
-use Rattle.tables.specs.Marks.{AllBelow}
+use Rattle.tables.specs.Marks.{AllBelow, isNew}
 
 -- marks that are 0 are below the first row's number
 pub zeros-below : (n : ℕ) → AllBelow 1 (replicate n 0)
@@ -38,32 +39,47 @@ not-distinct zero l e = e
 not-distinct (suc i) [] e = e
 not-distinct (suc i) (s ∷ l) e = simp (not-distinct i l e, and-false)
 
--- the setting s before those that are met
-module _ (l : List ℕ) {row i s : ℕ} {marks : List ℕ} (above : 0 < i) (within : i ≤ length l) (e : getD l (i - 1) 0 ≡ s) (m : Marked row (drop i l) marks) where
-  here : drop (i - 1) l ≡ s ∷ drop i l
-  here =
-      let k : suc (i - 1) ≡ i = omega arith in
-      drop-cons l (i - 1) 0 (omega arith) ∙ (λ j. e j ∷ drop (k j) l)
+-- the setting at k, before those from i on that are met, and what a call of mark with it answers and leaves
+module _ (l : List ℕ) (i k : ℕ) {row : ℕ} {marks after : List ℕ} {r : Bool} (next : i ≡ suc k) (within : i ≤ length l) (m : Marked row (drop i l) marks)
+    (e : (r ≡ isNew row (getD l k 0) marks) × (after ≡ cond r (set marks (getD l k 0) row) marks)) where
+  here : drop k l ≡ getD l k 0 ∷ drop i l
+  here = drop-cons l k 0 (omega arith) ∙ ap (λ (j : ℕ). getD l k 0 ∷ drop j l) (sym next)
 
-  -- it is too high
-  pub not-below : settingCount ≤ s → distinctSettings l ≡ false
-  not-below h = not-distinct (i - 1) l (rw (here, le-ltb s settingCount h))
+  -- the answer
+  pub answer : r ≡ distinctSettings (drop k l)
+  answer = e .0 ∙ sym (rw (here, m .met (getD l k 0), m .distinct, and-true (not (eqb (getD marks (getD l k 0) 0) row))))
 
-  -- it stands twice
-  pub twice : s < settingCount → getD marks s 0 ≡ row → distinctSettings l ≡ false
-  twice h q = not-distinct (i - 1) l (rw (here, lt-ltb s settingCount h, m .met s, eq-eqb (getD marks s 0) row q))
-
-  -- it is new, and is marked
-  pub mark : s < settingCount → (getD marks s 0 ≡ row → ⊥) → Marked row (drop (i - 1) l) (set marks s row)
-  mark h n =
-      rw here
-      (record {
-        distinct = rw (lt-ltb s settingCount h, m .met s, ne-eqb (getD marks s 0) row n) (m .distinct);
-        sized = rw length-set (m .sized);
+  -- the marks where it is new
+  pub passed : r ≡ true → Marked row (drop k l) after
+  passed q =
+      record {
+        distinct = sym answer ∙ q;
+        sized = rw (stored, length-set) (m .sized);
         below = λ t. at t (ℕ-discrete t s) .0;
         met = λ t. at t (ℕ-discrete t s) .1;
-      })
+      }
     where
-      at : (t : ℕ) → Dec (t ≡ s) → (getD (set marks s row) t 0 < row + 1) × ((eqb s t || holds t (drop i l)) ≡ eqb (getD (set marks s row) t 0) row)
-      at t (yes q) = rw (q, getD-set-same marks s row 0 (omega arith), eq-eqb s s refl, eq-eqb row row refl) (omega arith, refl)
-      at t (no q) = rw (getD-set-other marks s t row 0 q, ne-eqb s t (λ p. q (sym p))) (m .below t, m .met t)
+      s : ℕ
+      s = getD l k 0
+
+      inside : s < length marks
+      inside = rw (m .sized) (ltb-true s settingCount (both (ltb s settingCount) (sym (e .0) ∙ q) .0))
+
+      stored : after ≡ set marks s row
+      stored = e .1 ∙ ap (λ t. cond t (set marks s row) marks) q
+
+      at : (t : ℕ) → Dec (t ≡ s) → (getD after t 0 < row + 1) × (holds t (drop k l) ≡ eqb (getD after t 0) row)
+      at t (yes p) = rw (here, stored, p, getD-set-same marks s row 0 inside, eq-eqb s s refl, eq-eqb row row refl) (omega arith, refl)
+      at t (no p) = rw (here, stored, getD-set-other marks s t row 0 p, ne-eqb s t (λ z. p (sym z))) (m .below t, m .met t)
+
+  -- the marks in any case
+  pub kept : (length after ≡ settingCount) × AllBelow (row + 1) after
+  kept = go r refl
+    where
+      go : (t : Bool) → r ≡ t → (length after ≡ settingCount) × AllBelow (row + 1) after
+      go true q = (passed q .sized, passed q .below)
+      go false q = rw (e .1, q) (m .sized, m .below)
+
+  -- the list where it is not new
+  pub failed : r ≡ false → (false ≡ distinctSettings l) × (length after ≡ settingCount) × AllBelow (row + 1) after
+  failed q = (sym (not-distinct k l (sym answer ∙ q)), kept .0, kept .1)

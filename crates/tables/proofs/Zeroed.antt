@@ -1,12 +1,11 @@
 -- Laws of the loops over zeros: one that gathers the bits of a list by or, and one that stores a value at every place.
 use mathlib.Core.Path.{_≡_, refl, sym, ap, _∙_}
-use mathlib.Core.Bool.{Bool, true, false, _&&_, and-true, and-assoc}
+use mathlib.Core.Bool.{Bool, true, _&&_, and-true, and-assoc}
 use mathlib.Core.List.{List, [], _∷_}
 use Prim.Native.Nat.{ℕ, suc, _+_, _≤_, _<_}
 use native.Mathlib.Numerals.{add-one}
 use native.Mathlib.Omega.{arith}
-use borrow.Author.Tests.{eqb-true, eqb-false, ne-eqb}
-use lib.Bits.{bitOr, or-zero-l, or-add-and, and-le-r}
+use lib.Bits.{bitOr}
 use lib.Dec.{eqb}
 use lib.IntN.{ℤ, pos}
 use lib.ListN.{length, getD, set, take, drop, replicate, length-set, drop-of-length-le, replicate-append-replicate}
@@ -15,17 +14,10 @@ use mir.Syntax.{w32}
 use mir.Val.{SFits, ofZ}
 use Rattle.words.specs.Words.{isZero}
 use Rattle.words.proofs.Laws.{zero-bits}
+use Rattle.interpreter.proofs.Bounds.{or-zero}
 use Rattle.model.specs.Form.{allZero, allZeroZ}
 
 -- ---- gathering
-
--- the or of two numbers is 0 where both are
-or-zero : (a b : ℕ) → eqb (bitOr a b) 0 ≡ (eqb a 0 && eqb b 0)
-or-zero a b = go (eqb a 0) refl
-  where
-    go : (t : Bool) → eqb a 0 ≡ t → eqb (bitOr a b) 0 ≡ (t && eqb b 0)
-    go true e = ap (λ (x : ℕ). eqb (bitOr x b) 0) (eqb-true a 0 e) ∙ ap (λ (x : ℕ). eqb x 0) (or-zero-l b)
-    go false e = ne-eqb (bitOr a b) 0 (λ q. eqb-false a 0 e (omega (arith, or-add-and a b, and-le-r a b)))
 
 -- a whole passes a test where the bits gathered from the elements before i are 0 and those from i on pass
 pub record Gathered {A : Type 0} (all : List A → Bool) (any i : ℕ) (s : List A) (whole : Bool) : Type 0 where

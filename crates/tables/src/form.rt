@@ -8,16 +8,17 @@ use crate::zeros::rest_zero_u16;
 use crate::zeros::rest_zero_u64;
 use interpreter::form::well_formed;
 ghost use mathlib.Core.Path.{_≡_};
+ghost use mathlib.Core.Bool.{cond};
 ghost use mathlib.Core.List.{[], _∷_};
 ghost use Prim.Native.Nat.{_+_, _*_, _<_, _≤_};
-ghost use lib.ListN.{length, getD};
+ghost use lib.ListN.{length, getD, set};
 ghost use Rattle.machine.specs.Form.{allBelow};
 ghost use Rattle.model.specs.Tables.{tables};
 ghost use Rattle.model.specs.Form.{headFits, programFits, distinctSettings, listFits, orderFits, unusedFits, inForm};
 ghost use Rattle.model.specs.Refusals.{firstOf, wrongLengths, notInForm};
 ghost use Rattle.model.proofs.Tests.{Lengths};
 ghost use Rattle.tables.specs.Lengths.{lengthNumbersFit};
-ghost use Rattle.tables.specs.Marks.{AllBelow};
+ghost use Rattle.tables.specs.Marks.{AllBelow, isNew};
 
 // Whether the lengths are those of tables of capacity n, from 1 to 4,096.
 pub fn lengths_fit(
@@ -150,22 +151,38 @@ fn programs_fit(count: usize, lengths: &[u16], programs: &[u8]) -> bool
     true
 }
 
-// Whether the settings are below 1,024 and none stands twice. A setting is marked with the row's number once it was met.
+// Whether a setting is below 1,024 and not marked with the row's number. If so, it is marked.
+fn mark(setting: u16, marks: &mut [u16; 1024], row: u16) -> bool
+    ensures { λ r. ⌜ (r ≡ isNew row setting (now (marks .entry))) × (now (marks .exit) ≡ cond r (set (now (marks .entry)) setting row) (now (marks .entry))) ⌝ }
+{
+    let s = setting as usize;
+    if 1024 <= s {
+        return false;
+    }
+    if marks[s] == row {
+        return false;
+    }
+    marks[s] = row;
+    true
+}
+
+// Whether the settings are below 1,024 and none stands twice. Each is marked once it was met, two a turn.
 fn distinct_settings(settings: &[u16], marks: &mut [u16; 1024], row: u16) -> bool
     requires { ⌜ (length (now marks) ≡ 1024) × AllBelow row (now marks) ⌝ }
     ensures { λ r. ⌜ (r ≡ distinctSettings (now (settings .entry))) × (length (now (marks .exit)) ≡ 1024) × AllBelow (row + 1) (now (marks .exit)) ⌝ }
 {
     let mut i = settings.len();
-    while 0 < i {
-        i -= 1;
-        let s = settings[i] as usize;
-        if 1024 <= s {
+    while 1 < i {
+        i -= 2;
+        if !mark(settings[i + 1], marks, row) {
             return false;
         }
-        if marks[s] == row {
+        if !mark(settings[i], marks, row) {
             return false;
         }
-        marks[s] = row;
+    }
+    if i == 1 {
+        return mark(settings[0], marks, row);
     }
     true
 }

@@ -1,10 +1,11 @@
 -- `tables::form::distinct_settings` meets its contract: the settings passed are distinct, and they are those that are marked. Assumes nothing.
-use mathlib.Core.Path.{_≡_, refl, sym}
-use Prim.Native.Nat.{_-_, _≤_}
+use mathlib.Core.Path.{_≡_, sym}
+use Prim.Native.Nat.{_+_, _-_, _≤_}
 use native.Mathlib.Omega.{arith}
 use borrow.Author.Needs.{needs}
+use borrow.Author.Tests.{not-true, not-false}
 use lib.ListN.{length, drop}
-use Rattle.tables.proofs.Marks.{Marked, unmarked, not-below, twice, mark}
+use Rattle.tables.proofs.Marks.{Marked, unmarked, answer, failed, passed, kept}
 use Rattle.tables.proofs.form.distinct_settings.Statement.{statement}
 use Rattle.tables.proofs.form.distinct_settings.Tie as tie
 
@@ -15,31 +16,39 @@ abbrev μ-loop : tie.MeasureT-loop
 μ-loop settings marks₀ row i₀ marks i = i
 
 loop-holds : tie.Need-loop-holds Inv-loop μ-loop
-loop-holds c = (omega arith, unmarked _ (c .args .settings .now) _ (c .pre .0) (c .pre .1))
-
-cast-s : tie.Need-cast-s Inv-loop μ-loop
-cast-s c = omega (arith, c .shared-slice-known .given (c .before .before .loop .i - 1))
+loop-holds c = (omega arith, unmarked _ (c .before .args .settings .now) _ (c .before .pre .0) (c .before .pre .1))
 
 returns : tie.Need-returns Inv-loop μ-loop
 returns c =
-    let l = c .before .before .before .loop in
-    let m = l .inv .1 in
-    (sym (not-below _ (omega arith) (l .inv .0) refl m (omega arith)), m .sized, m .below)
+    let l = c .before .before .before .before .before .loop in
+    failed (c .before .before .before .before .before .before .before .args .settings .now) (l .i) (l .i - 2 + 1) (omega arith) (l .inv .0) (l .inv .1) (c .before .mark .ensures) (not-true _ (c .if1 .taken))
+
+-- the settings that are marked after the first of a turn
+first : (c : tie.Else1 Inv-loop μ-loop) → let a = c .before .before .before .before .before .before .before .args in Marked (a .row) (drop (c .before .before .before .before .before .loop .i - 2 + 1) (a .settings .now)) (c .before .mark .last .1 .0)
+first c =
+    let l = c .before .before .before .before .before .loop in
+    passed (c .before .before .before .before .before .before .before .args .settings .now) (l .i) (l .i - 2 + 1) (omega arith) (l .inv .0) (l .inv .1) (c .before .mark .ensures) (not-false _ (c .if1 .left))
 
 returns-2 : tie.Need-returns-2 Inv-loop μ-loop
 returns-2 c =
-    let l = c .before .before .before .before .before .loop in
-    let m = l .inv .1 in
-    (sym (twice _ (omega arith) (l .inv .0) refl m (omega arith) (c .if2 .taken)), m .sized, m .below)
+    let i = c .before .before .before .before .before .before .before .before .before .loop .i in
+    failed (c .before .before .before .before .before .before .before .before .before .before .before .args .settings .now) (i - 2 + 1) (i - 2) (omega arith) (omega arith) (first (c .before .before .before .before)) (c .before .mark2 .ensures) (not-true _ (c .if2 .taken))
 
 loop-again : tie.Need-loop-again Inv-loop μ-loop
 loop-again c =
-    let l = c .before .before .before .before .before .loop in
-    (omega arith, mark _ (omega arith) (l .inv .0) refl (l .inv .1) (omega arith) (c .if2 .left))
+    let i = c .before .before .before .before .before .before .before .before .before .loop .i in
+    (omega arith, passed (c .before .before .before .before .before .before .before .before .before .before .before .args .settings .now) (i - 2 + 1) (i - 2) (omega arith) (omega arith) (first (c .before .before .before .before)) (c .before .mark2 .ensures) (not-false _ (c .if2 .left)))
 
 returns-3 : tie.Need-returns-3 Inv-loop μ-loop
 returns-3 c =
-    let l = c .before .loop in
+    let s = c .before .before .before .before .before .before .before .args .settings .now in
+    let l = c .before .before .before .before .before .loop in
+    let k = kept s (l .i) 0 (c .before .before .before .if3 .taken) (l .inv .0) (l .inv .1) (c .mark3 .ensures) in
+    (answer s (l .i) 0 (c .before .before .before .if3 .taken) (l .inv .0) (l .inv .1) (c .mark3 .ensures), k .0, k .1)
+
+returns-4 : tie.Need-returns-4 Inv-loop μ-loop
+returns-4 c =
+    let l = c .before .before .loop in
     let m = l .inv .1 in
     let e : l .i ≡ 0 = omega arith in
     (sym (rw e at (m .distinct)), m .sized, m .below)
@@ -54,13 +63,16 @@ distinct-settings-spec =
     (λ c. search needs)
     (λ c. search needs)
     (λ c. search needs)
-    cast-s
+    (λ c. search needs)
+    (λ c κs. tt)
     returns
     (λ c. search needs)
     (λ c. search needs)
+    (λ c κs. tt)
     returns-2
     (λ c. search needs)
-    (λ c. search needs)
-    (λ c. search needs)
     loop-again
-    returns-3)
+    (λ c. search needs)
+    (λ c κs. tt)
+    returns-3
+    returns-4)
