@@ -1,0 +1,322 @@
+/*
+ * The proved change history of a cabinet of managed switches, for C.
+ *
+ * The functions are those of the static library `exports` (rt staticlib exports gives
+ * target/staticlib/libexports.a). They are proved: for every argument the answer and what stands in
+ * every table after the call is what the definitions in crates/model/specs/Calls say. They allocate
+ * nothing, keep nothing between calls and end on every input.
+ *
+ * Each table is lent as a pointer and the number of its entries (NAME_len). The caller sees to it that
+ * a pointer is aligned and has that many initialised entries, that no table that a call may write
+ * overlaps another, and that no other thread writes a lent table, or reads one that the call may
+ * write, before it returns. A pointer with length 0 is not used. Nothing else is required: a call
+ * refuses lengths and contents that it cannot use.
+ *
+ *   n               the capacity N, 1 to 4,096
+ *   held            1 entry: the held count
+ *   timestamps      N entries: the timestamp at each place, in order of arrival
+ *   order           N entries: the places by rising timestamp
+ *   status          N entries: 0 New, 1 Valid, 2 Invalid
+ *   withdrawn       N entries: 0 or 1
+ *   length          N entries: the program length in instructions
+ *   programs        256 x N bytes: the programs
+ *   read_count      N entries: the number of settings read
+ *   write_count     N entries: the number of settings written
+ *   read_settings   32 x N entries: the settings read
+ *   seen_values     32 x N entries: the values seen
+ *   write_settings  32 x N entries: the settings written
+ *   written_values  32 x N entries: the values written
+ *   view            1,024 entries: the current value of each setting
+ *
+ * Set up fills the tables; after that only these functions write them. A refused call alters nothing.
+ */
+#ifndef TOLBEZUN_H
+#define TOLBEZUN_H
+
+#include <stddef.h>
+#include <stdint.h>
+
+#ifdef __cplusplus
+extern "C" {
+#endif
+
+/* Why a call is turned down. The first that applies is the answer. */
+enum tolbezun_refusal {
+    TOLBEZUN_LENGTH = 1,         /* a lent slice has another length than stated, or n is outside 1 to 4,096 */
+    TOLBEZUN_FORM = 2,           /* the tables are not in form */
+    TOLBEZUN_PACKAGE = 3,        /* the package breaks its layout or length */
+    TOLBEZUN_TIMESTAMP = 4,      /* the timestamp is 0 or 2^64 - 1; value as of allows 2^64 - 1 */
+    TOLBEZUN_SETTING = 5,        /* the setting number is above 1,023 */
+    TOLBEZUN_PROGRAM_LENGTH = 6, /* the program is over 256 bytes or no multiple of 8 */
+    TOLBEZUN_INSTRUCTION = 7,    /* an instruction is not in the table, or a part of it is wrong */
+    TOLBEZUN_OTHER_PROGRAM = 8,  /* the timestamp is held with another program */
+    TOLBEZUN_FULL = 9,           /* the held count equals n and the timestamp is not held */
+    TOLBEZUN_NOT_HELD = 10,      /* the timestamp is not held */
+    TOLBEZUN_WITHDRAWN = 11      /* the change is withdrawn already */
+};
+
+/*
+ * Sets up the tables: every slot 0, the view at the start values.
+ *
+ * Alters every table. Answers 0 done or refusal 1.
+ */
+uint8_t tolbezun_set_up(
+    size_t n,
+    uint16_t *held, size_t held_len,
+    uint64_t *timestamps, size_t timestamps_len,
+    uint16_t *order, size_t order_len,
+    uint16_t *status, size_t status_len,
+    uint16_t *withdrawn, size_t withdrawn_len,
+    uint16_t *length, size_t length_len,
+    uint8_t *programs, size_t programs_len,
+    uint16_t *read_count, size_t read_count_len,
+    uint16_t *write_count, size_t write_count_len,
+    uint16_t *read_settings, size_t read_settings_len,
+    int32_t *seen_values, size_t seen_values_len,
+    uint16_t *write_settings, size_t write_settings_len,
+    int32_t *written_values, size_t written_values_len,
+    int32_t *view, size_t view_len);
+
+/*
+ * Takes in a change: the next place, New, not withdrawn, lists empty.
+ *
+ * timestamp       1 to 2^64 - 2
+ * program         its bytes, 8 an instruction; program_len is their number, 0 to 256
+ *
+ * Alters held, timestamps, order, length and programs. Answers 0 done, 255 already held (the same
+ * timestamp with the same program; nothing is altered) or refusal 1, 2, 4, 6, 7, 8 or 9.
+ */
+uint8_t tolbezun_take_in(
+    size_t n,
+    uint16_t *held, size_t held_len,
+    uint64_t *timestamps, size_t timestamps_len,
+    uint16_t *order, size_t order_len,
+    const uint16_t *status, size_t status_len,
+    const uint16_t *withdrawn, size_t withdrawn_len,
+    uint16_t *length, size_t length_len,
+    uint8_t *programs, size_t programs_len,
+    const uint16_t *read_count, size_t read_count_len,
+    const uint16_t *write_count, size_t write_count_len,
+    const uint16_t *read_settings, size_t read_settings_len,
+    const int32_t *seen_values, size_t seen_values_len,
+    const uint16_t *write_settings, size_t write_settings_len,
+    const int32_t *written_values, size_t written_values_len,
+    const int32_t *view, size_t view_len,
+    uint64_t timestamp,
+    const uint8_t *program, size_t program_len);
+
+/*
+ * Withdraws a change.
+ *
+ * timestamp       of a held change that is not withdrawn
+ *
+ * Alters status and withdrawn. Answers 0 done or refusal 1, 2, 4, 10 or 11.
+ */
+uint8_t tolbezun_withdraw(
+    size_t n,
+    const uint16_t *held, size_t held_len,
+    const uint64_t *timestamps, size_t timestamps_len,
+    const uint16_t *order, size_t order_len,
+    uint16_t *status, size_t status_len,
+    uint16_t *withdrawn, size_t withdrawn_len,
+    const uint16_t *length, size_t length_len,
+    const uint8_t *programs, size_t programs_len,
+    const uint16_t *read_count, size_t read_count_len,
+    const uint16_t *write_count, size_t write_count_len,
+    const uint16_t *read_settings, size_t read_settings_len,
+    const int32_t *seen_values, size_t seen_values_len,
+    const uint16_t *write_settings, size_t write_settings_len,
+    const int32_t *written_values, size_t written_values_len,
+    const int32_t *view, size_t view_len,
+    uint64_t timestamp);
+
+/*
+ * Takes in a package: its entries in order, each as take in or withdraw would.
+ *
+ * package         its bytes; package_len is their number
+ * answers         512 bytes; each entry's gets 0 done, 255 already held or its refusal, later ones
+ *                 keep their contents
+ *
+ * Alters held, timestamps, order, status, withdrawn, length, programs and answers. Answers 0 done or
+ * refusal 1, 2 or 3. A refused entry stops nothing.
+ */
+uint8_t tolbezun_take_in_package(
+    size_t n,
+    uint16_t *held, size_t held_len,
+    uint64_t *timestamps, size_t timestamps_len,
+    uint16_t *order, size_t order_len,
+    uint16_t *status, size_t status_len,
+    uint16_t *withdrawn, size_t withdrawn_len,
+    uint16_t *length, size_t length_len,
+    uint8_t *programs, size_t programs_len,
+    const uint16_t *read_count, size_t read_count_len,
+    const uint16_t *write_count, size_t write_count_len,
+    const uint16_t *read_settings, size_t read_settings_len,
+    const int32_t *seen_values, size_t seen_values_len,
+    const uint16_t *write_settings, size_t write_settings_len,
+    const int32_t *written_values, size_t written_values_len,
+    const int32_t *view, size_t view_len,
+    const uint8_t *package, size_t package_len,
+    uint8_t *answers, size_t answers_len);
+
+/*
+ * Gives a turn to the change of the lowest timestamp that is New or Invalid.
+ *
+ * timestamp       1 entry, which gets the timestamp of the change whose turn it was, unless the answer
+ *                 is idle or a refusal
+ *
+ * Alters status, read_count, write_count, read_settings, seen_values, write_settings, written_values,
+ * view and timestamp. Answers 0 idle, 1 ran, 2 stood, 3 cleared, or 16 + refusal 1 or 2.
+ */
+uint8_t tolbezun_turn(
+    size_t n,
+    const uint16_t *held, size_t held_len,
+    const uint64_t *timestamps, size_t timestamps_len,
+    const uint16_t *order, size_t order_len,
+    uint16_t *status, size_t status_len,
+    const uint16_t *withdrawn, size_t withdrawn_len,
+    const uint16_t *length, size_t length_len,
+    const uint8_t *programs, size_t programs_len,
+    uint16_t *read_count, size_t read_count_len,
+    uint16_t *write_count, size_t write_count_len,
+    uint16_t *read_settings, size_t read_settings_len,
+    int32_t *seen_values, size_t seen_values_len,
+    uint16_t *write_settings, size_t write_settings_len,
+    int32_t *written_values, size_t written_values_len,
+    int32_t *view, size_t view_len,
+    uint64_t *timestamp, size_t timestamp_len);
+
+/*
+ * Makes turns until one is idle.
+ *
+ * totals          3 entries, which get how many turns ran, stood and were cleared, unless the answer
+ *                 is a refusal
+ *
+ * Alters what a turn alters, and totals. Answers 0 done or refusal 1 or 2.
+ */
+uint8_t tolbezun_drain(
+    size_t n,
+    const uint16_t *held, size_t held_len,
+    const uint64_t *timestamps, size_t timestamps_len,
+    const uint16_t *order, size_t order_len,
+    uint16_t *status, size_t status_len,
+    const uint16_t *withdrawn, size_t withdrawn_len,
+    const uint16_t *length, size_t length_len,
+    const uint8_t *programs, size_t programs_len,
+    uint16_t *read_count, size_t read_count_len,
+    uint16_t *write_count, size_t write_count_len,
+    uint16_t *read_settings, size_t read_settings_len,
+    int32_t *seen_values, size_t seen_values_len,
+    uint16_t *write_settings, size_t write_settings_len,
+    int32_t *written_values, size_t written_values_len,
+    int32_t *view, size_t view_len,
+    uint64_t *totals, size_t totals_len);
+
+/*
+ * The current value of a setting, from the view.
+ *
+ * setting         0 to 1,023
+ *
+ * Alters nothing. Answers the value, -2^31 to 2^31 - 1, or 4,294,967,296 + refusal 1, 2 or 5.
+ */
+int64_t tolbezun_current_value(
+    size_t n,
+    const uint16_t *held, size_t held_len,
+    const uint64_t *timestamps, size_t timestamps_len,
+    const uint16_t *order, size_t order_len,
+    const uint16_t *status, size_t status_len,
+    const uint16_t *withdrawn, size_t withdrawn_len,
+    const uint16_t *length, size_t length_len,
+    const uint8_t *programs, size_t programs_len,
+    const uint16_t *read_count, size_t read_count_len,
+    const uint16_t *write_count, size_t write_count_len,
+    const uint16_t *read_settings, size_t read_settings_len,
+    const int32_t *seen_values, size_t seen_values_len,
+    const uint16_t *write_settings, size_t write_settings_len,
+    const int32_t *written_values, size_t written_values_len,
+    const int32_t *view, size_t view_len,
+    size_t setting);
+
+/*
+ * The value of a setting as of a timestamp: of the highest write stamped below it, else the start.
+ *
+ * timestamp       1 to 2^64 - 1
+ * setting         0 to 1,023
+ *
+ * Alters nothing. Answers the value, -2^31 to 2^31 - 1, or 4,294,967,296 + refusal 1, 2, 4 or 5.
+ */
+int64_t tolbezun_value_as_of(
+    size_t n,
+    const uint16_t *held, size_t held_len,
+    const uint64_t *timestamps, size_t timestamps_len,
+    const uint16_t *order, size_t order_len,
+    const uint16_t *status, size_t status_len,
+    const uint16_t *withdrawn, size_t withdrawn_len,
+    const uint16_t *length, size_t length_len,
+    const uint8_t *programs, size_t programs_len,
+    const uint16_t *read_count, size_t read_count_len,
+    const uint16_t *write_count, size_t write_count_len,
+    const uint16_t *read_settings, size_t read_settings_len,
+    const int32_t *seen_values, size_t seen_values_len,
+    const uint16_t *write_settings, size_t write_settings_len,
+    const int32_t *written_values, size_t written_values_len,
+    const int32_t *view, size_t view_len,
+    uint64_t timestamp,
+    size_t setting);
+
+/*
+ * The standing of a timestamp.
+ *
+ * timestamp       of a held change
+ *
+ * Alters nothing. Answers status + 256 x flag (status 0 New, 1 Valid, 2 Invalid; flag 1 withdrawn, else
+ * 0), or 65,536 + refusal 1, 2, 4 or 10.
+ */
+uint32_t tolbezun_standing(
+    size_t n,
+    const uint16_t *held, size_t held_len,
+    const uint64_t *timestamps, size_t timestamps_len,
+    const uint16_t *order, size_t order_len,
+    const uint16_t *status, size_t status_len,
+    const uint16_t *withdrawn, size_t withdrawn_len,
+    const uint16_t *length, size_t length_len,
+    const uint8_t *programs, size_t programs_len,
+    const uint16_t *read_count, size_t read_count_len,
+    const uint16_t *write_count, size_t write_count_len,
+    const uint16_t *read_settings, size_t read_settings_len,
+    const int32_t *seen_values, size_t seen_values_len,
+    const uint16_t *write_settings, size_t write_settings_len,
+    const int32_t *written_values, size_t written_values_len,
+    const int32_t *view, size_t view_len,
+    uint64_t timestamp);
+
+/*
+ * Runs all held changes in timestamp order, withdrawn ones passed over, on settings of its own.
+ *
+ * settings        1,024 entries, which get what the changes leave
+ *
+ * Alters settings alone. Answers 0 done or refusal 1 or 2.
+ */
+uint8_t tolbezun_plain_run(
+    size_t n,
+    const uint16_t *held, size_t held_len,
+    const uint64_t *timestamps, size_t timestamps_len,
+    const uint16_t *order, size_t order_len,
+    const uint16_t *status, size_t status_len,
+    const uint16_t *withdrawn, size_t withdrawn_len,
+    const uint16_t *length, size_t length_len,
+    const uint8_t *programs, size_t programs_len,
+    const uint16_t *read_count, size_t read_count_len,
+    const uint16_t *write_count, size_t write_count_len,
+    const uint16_t *read_settings, size_t read_settings_len,
+    const int32_t *seen_values, size_t seen_values_len,
+    const uint16_t *write_settings, size_t write_settings_len,
+    const int32_t *written_values, size_t written_values_len,
+    const int32_t *view, size_t view_len,
+    int32_t *settings, size_t settings_len);
+
+#ifdef __cplusplus
+}
+#endif
+
+#endif

@@ -1,0 +1,114 @@
+//! A cabinet: a capacity and the tables for it.
+
+use crate::answers::{Refusal, Standing, Taken, Totals, Turned};
+use crate::calls::{self, ANSWERS};
+use crate::tables::{Tables, MAX_CAPACITY, SETTINGS};
+
+/// The change history of one cabinet.
+///
+/// Changes are taken in and withdrawn in any order; after a [`drain`](Self::drain) the settings are
+/// those that all held changes give, run in the order of their timestamps, withdrawn ones passed
+/// over.
+///
+/// The error of a method is the refusal, and a refused call alters nothing. The tables of a cabinet
+/// made by [`new`](Self::new) are in form at all times, so that its calls are never refused for
+/// [`Refusal::Length`] or [`Refusal::Form`].
+#[derive(Clone, Debug, PartialEq, Eq)]
+pub struct Cabinet {
+    capacity: usize,
+    tables: Tables,
+}
+
+impl Cabinet {
+    /// A cabinet for so many changes, 1 to 4,096, just set up.
+    pub fn new(capacity: usize) -> Result<Self, Refusal> {
+        if capacity > MAX_CAPACITY {
+            return Err(Refusal::Length);
+        }
+        let mut cabinet = Self::with_tables(capacity, Tables::new(capacity));
+        cabinet.set_up()?;
+        Ok(cabinet)
+    }
+
+    /// A cabinet with these tables, whatever their lengths and contents. Its calls refuse a capacity
+    /// or tables that they cannot use.
+    pub fn with_tables(capacity: usize, tables: Tables) -> Self {
+        Self { capacity, tables }
+    }
+
+    /// The capacity.
+    pub fn capacity(&self) -> usize {
+        self.capacity
+    }
+
+    /// The tables.
+    pub fn tables(&self) -> &Tables {
+        &self.tables
+    }
+
+    /// Gives the tables back.
+    pub fn into_tables(self) -> Tables {
+        self.tables
+    }
+
+    /// Forgets all changes: every table at 0, every setting at its start value.
+    pub fn set_up(&mut self) -> Result<(), Refusal> {
+        calls::set_up(self.capacity, &mut self.tables)
+    }
+
+    /// Takes in the change with this timestamp and program.
+    pub fn take_in(&mut self, timestamp: u64, program: &[u8]) -> Result<Taken, Refusal> {
+        calls::take_in(self.capacity, &mut self.tables, timestamp, program)
+    }
+
+    /// Withdraws a change: after a drain it is as if it had never been made.
+    pub fn withdraw(&mut self, timestamp: u64) -> Result<(), Refusal> {
+        calls::withdraw(self.capacity, &mut self.tables, timestamp)
+    }
+
+    /// Carries out the entries of a package in order, and returns the answer of each. A refused
+    /// entry stops nothing.
+    pub fn take_in_package(
+        &mut self,
+        package: &[u8],
+    ) -> Result<Vec<Result<Taken, Refusal>>, Refusal> {
+        let mut answers = [0; ANSWERS];
+        calls::take_in_package(self.capacity, &mut self.tables, package, &mut answers)?;
+        let entries = answers.iter().take(calls::entry_count(package));
+        Ok(entries.map(|&byte| calls::entry_answer(byte)).collect())
+    }
+
+    /// Gives a turn to the change of the lowest timestamp that is New or Invalid.
+    pub fn turn(&mut self) -> Result<Turned, Refusal> {
+        calls::turn(self.capacity, &mut self.tables)
+    }
+
+    /// Makes turns until one is idle.
+    pub fn drain(&mut self) -> Result<Totals, Refusal> {
+        calls::drain(self.capacity, &mut self.tables)
+    }
+
+    /// The current value of a setting.
+    pub fn current_value(&self, setting: usize) -> Result<i32, Refusal> {
+        calls::current_value(self.capacity, &self.tables, setting)
+    }
+
+    /// The value of a setting as of a timestamp: that of the highest write stamped below it, else
+    /// the start.
+    pub fn value_as_of(&self, timestamp: u64, setting: usize) -> Result<i32, Refusal> {
+        calls::value_as_of(self.capacity, &self.tables, timestamp, setting)
+    }
+
+    /// The standing of a timestamp.
+    pub fn standing(&self, timestamp: u64) -> Result<Standing, Refusal> {
+        calls::standing(self.capacity, &self.tables, timestamp)
+    }
+
+    /// What all held changes leave, run in timestamp order on settings of their own, withdrawn ones
+    /// passed over. After a drain these are the current values.
+    pub fn plain_run(&self) -> Result<Vec<i32>, Refusal> {
+        let mut settings = vec![0; SETTINGS];
+        calls::plain_run(self.capacity, &self.tables, &mut settings)?;
+        Ok(settings)
+    }
+}

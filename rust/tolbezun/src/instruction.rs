@@ -1,0 +1,85 @@
+//! The instructions of a change: document 01, "Instructions of a change".
+
+/// An instruction. `a`, `b` and `c` are registers, 0 to 7.
+///
+/// Whether a program is right is told when it is taken in ([`Refusal::ProgramLength`],
+/// [`Refusal::Instruction`]), not here.
+///
+/// [`Refusal::ProgramLength`]: crate::Refusal::ProgramLength
+/// [`Refusal::Instruction`]: crate::Refusal::Instruction
+#[derive(Clone, Copy, Debug, PartialEq, Eq, Hash)]
+#[allow(missing_docs)]
+pub enum Instruction {
+    /// The run ends.
+    Stop,
+    /// ra = n.
+    Constant { a: u8, n: i32 },
+    /// ra = rb.
+    Copy { a: u8, b: u8 },
+    /// ra = rb + rc, wrapped to 32 bits.
+    Add { a: u8, b: u8, c: u8 },
+    /// ra = rb − rc, wrapped to 32 bits.
+    Subtract { a: u8, b: u8, c: u8 },
+    /// ra = −rb, wrapped.
+    Negate { a: u8, b: u8 },
+    /// ra = rb divided by 2^n rounded down, n 0 to 31.
+    ShiftRight { a: u8, b: u8, n: i32 },
+    /// ra = number of ones in rb's 32-bit pattern.
+    CountOnes { a: u8, b: u8 },
+    /// ra = and of the patterns of rb and rc.
+    And { a: u8, b: u8, c: u8 },
+    /// ra = or of the patterns of rb and rc.
+    Or { a: u8, b: u8, c: u8 },
+    /// ra = exclusive or of the patterns of rb and rc.
+    Xor { a: u8, b: u8, c: u8 },
+    /// ra = the setting of this number.
+    Read { a: u8, setting: i32 },
+    /// ra = the setting that rb names.
+    ReadIndexed { a: u8, b: u8 },
+    /// The setting of this number = ra.
+    Write { a: u8, setting: i32 },
+    /// The setting that rb names = ra.
+    WriteIndexed { a: u8, b: u8 },
+    /// Skips n instructions if rb < 0.
+    SkipIfNegative { b: u8, n: i32 },
+    /// Skips n instructions if rb = 0.
+    SkipIfZero { b: u8, n: i32 },
+    /// Skips n instructions.
+    Skip { n: i32 },
+}
+
+impl Instruction {
+    /// The 8 bytes: operation, a, b, c, then n, low byte first. Unused parts are 0.
+    pub fn to_bytes(self) -> [u8; 8] {
+        let (operation, a, b, c, n) = match self {
+            Self::Stop => (0, 0, 0, 0, 0),
+            Self::Constant { a, n } => (1, a, 0, 0, n),
+            Self::Copy { a, b } => (2, a, b, 0, 0),
+            Self::Add { a, b, c } => (3, a, b, c, 0),
+            Self::Subtract { a, b, c } => (4, a, b, c, 0),
+            Self::Negate { a, b } => (5, a, b, 0, 0),
+            Self::ShiftRight { a, b, n } => (6, a, b, 0, n),
+            Self::CountOnes { a, b } => (7, a, b, 0, 0),
+            Self::And { a, b, c } => (8, a, b, c, 0),
+            Self::Or { a, b, c } => (9, a, b, c, 0),
+            Self::Xor { a, b, c } => (10, a, b, c, 0),
+            Self::Read { a, setting } => (11, a, 0, 0, setting),
+            Self::ReadIndexed { a, b } => (12, a, b, 0, 0),
+            Self::Write { a, setting } => (13, a, 0, 0, setting),
+            Self::WriteIndexed { a, b } => (14, a, b, 0, 0),
+            Self::SkipIfNegative { b, n } => (15, 0, b, 0, n),
+            Self::SkipIfZero { b, n } => (16, 0, b, 0, n),
+            Self::Skip { n } => (17, 0, 0, 0, n),
+        };
+        let [n0, n1, n2, n3] = n.to_le_bytes();
+        [operation, a, b, c, n0, n1, n2, n3]
+    }
+}
+
+/// The bytes of a program.
+pub fn program(instructions: &[Instruction]) -> Vec<u8> {
+    instructions
+        .iter()
+        .flat_map(|instruction| instruction.to_bytes())
+        .collect()
+}
