@@ -1,7 +1,6 @@
 //! The calls, made on the proved library and on the outside implementation, and compared.
 
-use crate::proved;
-use crate::proved::calls::altering;
+use crate::proved::calls as proved;
 use outside::calls::{self, Refusal};
 use outside::checker::{self, Totals, Turn};
 use outside::intake::{self, Taken};
@@ -15,7 +14,7 @@ use std::fmt::Debug;
 #[derive(Clone)]
 pub struct Both {
     n: usize,
-    proved: Tables,
+    proved: tolbezun::Tables,
     outside: Tables,
 }
 
@@ -24,7 +23,7 @@ impl Both {
     pub fn new(n: usize, tables: Tables) -> Self {
         Self {
             n,
-            proved: tables.clone(),
+            proved: proved::lend(&tables),
             outside: tables,
         }
     }
@@ -34,7 +33,7 @@ impl Both {
         let mut tables = Tables::new(n);
         tables.view.fill(-1);
         let mut both = Self::new(n, tables);
-        let set_up = proved::calls::set_up(n, &mut both.proved);
+        let set_up = proved::set_up(n, &mut both.proved);
         assert_eq!(set_up, Ok(()), "set up of capacity {n}");
         let set_up = calls::set_up(n, &mut both.outside);
         assert_eq!(set_up, Ok(()), "set up of capacity {n}");
@@ -57,7 +56,7 @@ impl Both {
     pub fn take_in(&mut self, timestamp: u64, program: &[u8]) -> Result<Taken, u8> {
         self.call(
             &format_args!("taking in {timestamp}, {program:?}"),
-            |n, tables| altering::take_in(n, tables, timestamp, program),
+            |n, tables| proved::take_in(n, tables, timestamp, program),
             |n, tables| intake::take_in(n, tables, timestamp, program),
         )
     }
@@ -67,7 +66,7 @@ impl Both {
     pub fn withdraw(&mut self, timestamp: u64) -> Result<(), u8> {
         self.call(
             &format_args!("withdrawing {timestamp}"),
-            |n, tables| altering::withdraw(n, tables, timestamp),
+            |n, tables| proved::withdraw(n, tables, timestamp),
             |n, tables| intake::withdraw(n, tables, timestamp),
         )
     }
@@ -79,7 +78,7 @@ impl Both {
         let mut by_proved = given.clone();
         let taken = self.call(
             &format_args!("taking in the package {package:?}"),
-            |n, tables| altering::take_in_package(n, tables, package, &mut by_proved),
+            |n, tables| proved::take_in_package(n, tables, package, &mut by_proved),
             |n, tables| package::take_in_package(n, tables, package, answers),
         );
         assert!(
@@ -96,13 +95,13 @@ impl Both {
     /// Makes a turn. The answer is none for idle.
     #[track_caller]
     pub fn turn(&mut self) -> Result<Option<Turn>, u8> {
-        self.call(&"a turn", altering::turn, checker::turn)
+        self.call(&"a turn", proved::turn, checker::turn)
     }
 
     /// Drains.
     #[track_caller]
     pub fn drain(&mut self) -> Result<Totals, u8> {
-        self.call(&"a drain", altering::drain, checker::drain)
+        self.call(&"a drain", proved::drain, checker::drain)
     }
 
     /// Makes every call that only reads, with this timestamp and this setting.
@@ -111,23 +110,23 @@ impl Both {
         let (n, proved, outside) = (self.n, &self.proved, &self.outside);
         assert_same(
             &format_args!("the current value of {setting}"),
-            proved::calls::current_value(n, proved, setting),
+            proved::current_value(n, proved, setting),
             calls::current_value(n, outside, setting),
         );
         assert_same(
             &format_args!("the value of {setting} as of {timestamp}"),
-            proved::calls::value_as_of(n, proved, timestamp, setting),
+            proved::value_as_of(n, proved, timestamp, setting),
             calls::value_as_of(n, outside, timestamp, setting),
         );
         assert_same(
             &format_args!("the standing of {timestamp}"),
-            proved::calls::standing(n, proved, timestamp),
+            proved::standing(n, proved, timestamp),
             calls::standing(n, outside, timestamp),
         );
         let (mut by_proved, mut by_outside) = ([-1; SETTINGS], [-1; SETTINGS]);
         assert_same(
             &"a plain run",
-            proved::calls::plain_run(n, proved, &mut by_proved),
+            proved::plain_run(n, proved, &mut by_proved),
             calls::plain_run(n, outside, &mut by_outside),
         );
         assert!(by_proved == by_outside, "what a plain run leaves");
@@ -138,7 +137,7 @@ impl Both {
     fn call<A: Copy + Debug + PartialEq>(
         &mut self,
         call: &dyn Debug,
-        proved: impl FnOnce(usize, &mut Tables) -> Result<A, u8>,
+        proved: impl FnOnce(usize, &mut tolbezun::Tables) -> Result<A, u8>,
         outside: impl FnOnce(usize, &mut Tables) -> Result<A, Refusal>,
     ) -> Result<A, u8> {
         let before = self.outside.clone();
@@ -154,22 +153,12 @@ impl Both {
 
     #[track_caller]
     fn assert_alike(&self, call: &dyn Debug) {
-        if self.proved == self.outside {
-            return;
-        }
-        let mut unlike = Vec::new();
-        macro_rules! compare {
-            ($($table:ident)*) => {
-                $(if self.proved.$table != self.outside.$table {
-                    unlike.push(stringify!($table));
-                })*
-            };
-        }
-        compare! {
-            held timestamps order status withdrawn lengths programs reads writes sources seen
-            targets written view
-        }
-        panic!("{call:?} leaves unlike {unlike:?} of capacity {}", self.n);
+        let unlike = proved::unlike(&self.proved, &self.outside);
+        assert!(
+            unlike.is_empty(),
+            "{call:?} leaves unlike {unlike:?} of capacity {}",
+            self.n
+        );
     }
 }
 

@@ -1,7 +1,7 @@
-//! The boundary to the proved static libraries: declarations of their functions, and safe forms of
-//! them.
+//! The proved code: the calls, by the crate `tolbezun`, and the interpreter, by the declarations of its
+//! static library here.
 //!
-//! Nothing checks these declarations against the libraries' source.
+//! Nothing checks these declarations against the library's source.
 
 pub mod calls;
 

@@ -4,8 +4,7 @@
 use comparison::both::Both;
 use comparison::generate::scripts::{Call, Source};
 use comparison::generate::{self, Random};
-use comparison::proved;
-use comparison::proved::calls::altering;
+use comparison::proved::calls as proved;
 use comparison::reached::Reached;
 use comparison::turns::{self, TurnEvent};
 use outside::book::{self, LoggedTurn};
@@ -290,10 +289,10 @@ fn lists_of_calls_have_the_same_answers_and_tables_and_meet_demand_3() {
 }
 
 /// Makes a call on the proved library alone.
-fn make_alone(n: usize, tables: &mut Tables, call: Call) -> book::Call {
+fn make_alone(n: usize, tables: &mut tolbezun::Tables, call: Call) -> book::Call {
     match call {
         Call::TakeIn { timestamp, program } => {
-            let taken = altering::take_in(n, tables, timestamp, &program);
+            let taken = proved::take_in(n, tables, timestamp, &program);
             book::Call::TakeIn {
                 timestamp,
                 program,
@@ -301,7 +300,7 @@ fn make_alone(n: usize, tables: &mut Tables, call: Call) -> book::Call {
             }
         }
         Call::Withdraw { timestamp } => {
-            let withdrawn = altering::withdraw(n, tables, timestamp);
+            let withdrawn = proved::withdraw(n, tables, timestamp);
             book::Call::Withdraw {
                 timestamp,
                 answer: number(withdrawn.map(|()| Taken::Done)),
@@ -311,7 +310,7 @@ fn make_alone(n: usize, tables: &mut Tables, call: Call) -> book::Call {
             package,
             mut answers,
         } => {
-            let taken = altering::take_in_package(n, tables, &package, &mut answers);
+            let taken = proved::take_in_package(n, tables, &package, &mut answers);
             book::Call::TakeInPackage {
                 package,
                 answers,
@@ -321,18 +320,18 @@ fn make_alone(n: usize, tables: &mut Tables, call: Call) -> book::Call {
         Call::Turn => book::Call::Turn(turn_alone(n, tables)),
         Call::Drain => {
             let mut single = tables.clone();
-            let held = single.held_count();
+            let held = usize::from(single.held[0]);
             let turns = book::turns_of_drain(held, || turn_alone(n, &mut single));
-            let totals = altering::drain(n, tables).expect("the tables are in form");
+            let totals = proved::drain(n, tables).expect("the tables are in form");
             assert!(*tables == single, "a drain's turns are single turns");
             book::Call::Drain(Some((totals, turns)))
         }
     }
 }
 
-fn turn_alone(n: usize, tables: &mut Tables) -> Option<LoggedTurn> {
-    let turn = altering::turn(n, tables).expect("the tables are in form")?;
-    Some(LoggedTurn::new(turn, tables))
+fn turn_alone(n: usize, tables: &mut tolbezun::Tables) -> Option<LoggedTurn> {
+    let turn = proved::turn(n, tables).expect("the tables are in form")?;
+    Some(LoggedTurn::new(turn, &proved::take_back(tables)))
 }
 
 /// Demand 3 without the outside implementation's Checker.
@@ -343,17 +342,17 @@ fn lists_of_calls_on_the_proved_library_alone_meet_demand_3() {
     for _ in 0..SCRIPTS_ALONE {
         let n = capacity(random);
         let mut source = Source::new(random, n);
-        let mut tables = Tables::new(n);
-        assert_eq!(proved::calls::set_up(n, &mut tables), Ok(()));
+        let mut tables = tolbezun::Tables::new(n);
+        assert_eq!(proved::set_up(n, &mut tables), Ok(()));
         let mut calls = Vec::new();
         for index in 0..=CALLS {
             let call = match index {
                 CALLS => Call::Drain,
-                _ => source.call(random, &tables),
+                _ => source.call(random, &proved::take_back(&tables)),
             };
             calls.push(make_alone(n, &mut tables, call));
             if let Some(book::Call::Drain(_)) = calls.last() {
-                let checked = book::check(&calls, &tables);
+                let checked = book::check(&calls, &proved::take_back(&tables));
                 assert!(checked.is_ok(), "{checked:?} of {calls:?}");
                 drained += 1;
             }

@@ -2,7 +2,7 @@
 
 use comparison::generate::tables::{self as random_tables, Breach, Table};
 use comparison::generate::{self, Random};
-use comparison::proved;
+use comparison::proved::calls as proved;
 use comparison::reached::Reached;
 use outside::calls::{self, Refusal, Standing};
 use outside::program::{self, SETTINGS};
@@ -36,40 +36,40 @@ enum Answer {
     Settings(Vec<i32>),
 }
 
-/// Tables to make calls on, and a copy that shows what they alter.
+/// Tables to make calls on, and those that the proved library is lent, which show what it alters.
 struct Lent {
     n: usize,
     tables: Tables,
-    copy: Tables,
+    proved: tolbezun::Tables,
 }
 
 impl Lent {
     fn new(n: usize, tables: Tables) -> Self {
-        let copy = tables.clone();
-        Self { n, tables, copy }
+        let proved = proved::lend(&tables);
+        Self { n, tables, proved }
     }
 
     /// What both answer. The error is the refusal.
     #[track_caller]
     fn ask(&self, query: Query) -> Result<Answer, u8> {
-        let (n, tables) = (self.n, &self.tables);
+        let (n, tables, lent) = (self.n, &self.tables, &self.proved);
         let (proved, outside) = match query {
             Query::CurrentValue(setting) => (
-                proved::calls::current_value(n, tables, setting).map(Answer::Value),
+                proved::current_value(n, lent, setting).map(Answer::Value),
                 calls::current_value(n, tables, setting).map(Answer::Value),
             ),
             Query::ValueAsOf(timestamp, setting) => (
-                proved::calls::value_as_of(n, tables, timestamp, setting).map(Answer::Value),
+                proved::value_as_of(n, lent, timestamp, setting).map(Answer::Value),
                 calls::value_as_of(n, tables, timestamp, setting).map(Answer::Value),
             ),
             Query::Standing(timestamp) => (
-                proved::calls::standing(n, tables, timestamp).map(Answer::Standing),
+                proved::standing(n, lent, timestamp).map(Answer::Standing),
                 calls::standing(n, tables, timestamp).map(Answer::Standing),
             ),
             Query::PlainRun(length) => {
                 let given = vec![0x5A5A_5A5A; length];
                 let (mut by_proved, mut by_outside) = (given.clone(), given.clone());
-                let proved = proved::calls::plain_run(n, tables, &mut by_proved);
+                let proved = proved::plain_run(n, lent, &mut by_proved);
                 let outside = calls::plain_run(n, tables, &mut by_outside);
                 let unaltered = proved.is_ok() || by_proved == given;
                 assert!(
@@ -87,15 +87,19 @@ impl Lent {
             proved == outside,
             "proved {proved:?}, outside {outside:?} of {query:?} on {self:?}"
         );
-        assert!(self.tables == self.copy, "{query:?} alters {self:?}");
+        let altered = proved::unlike(lent, tables);
+        assert!(
+            altered.is_empty(),
+            "{query:?} alters {altered:?} of {self:?}"
+        );
         outside
     }
 
     /// What both answer to set up, which is made on copies. The error is the refusal.
     #[track_caller]
     fn set_up(&self) -> Result<(), u8> {
-        let (mut by_proved, mut by_outside) = (self.tables.clone(), self.tables.clone());
-        let proved = proved::calls::set_up(self.n, &mut by_proved);
+        let (mut by_proved, mut by_outside) = (self.proved.clone(), self.tables.clone());
+        let proved = proved::set_up(self.n, &mut by_proved);
         let outside = calls::set_up(self.n, &mut by_outside).map_err(Refusal::number);
         assert!(
             proved == outside,
@@ -103,9 +107,13 @@ impl Lent {
         );
         let left = match outside {
             Ok(()) => &by_outside,
-            Err(_) => &self.copy,
+            Err(_) => &self.tables,
         };
-        assert!(by_proved == *left, "{proved:?} of set up on {self:?}");
+        let unlike = proved::unlike(&by_proved, left);
+        assert!(
+            unlike.is_empty(),
+            "{proved:?} of set up, {unlike:?} of {self:?}"
+        );
         outside
     }
 
@@ -593,7 +601,7 @@ fn capacities_other_than_1_to_4096_are_refused() {
         lent.assert_all_refused(random, 1);
         assert_eq!(lent.set_up(), Err(1));
         lent.tables.held[0] = 1;
-        lent.copy.held[0] = 1;
+        lent.proved.held[0] = 1;
         lent.assert_all_refused(random, 1);
     }
     for n in [1, MAX_CAPACITY] {
@@ -629,7 +637,7 @@ fn set_up_leaves_the_same_tables_whatever_they_held() {
         random_tables::fill(random, &mut tables);
         let mut lent = Lent::new(n, tables);
         assert_eq!(lent.set_up(), Ok(()));
-        assert_eq!(proved::calls::set_up(n, &mut lent.tables), Ok(()));
-        assert!(lent.tables == Tables::new(n));
+        assert_eq!(proved::set_up(n, &mut lent.proved), Ok(()));
+        assert!(lent.proved == tolbezun::Tables::new(n));
     }
 }
