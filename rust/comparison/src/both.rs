@@ -29,15 +29,11 @@ impl Both {
     }
 
     /// Tables of capacity `n`, which must be one, just set up.
-    pub fn set_up(n: usize) -> Self {
+    pub fn just_set_up(n: usize) -> Self {
         let mut tables = Tables::new(n);
         tables.view.fill(-1);
         let mut both = Self::new(n, tables);
-        let set_up = proved::set_up(n, &mut both.proved);
-        assert_eq!(set_up, Ok(()), "set up of capacity {n}");
-        let set_up = calls::set_up(n, &mut both.outside);
-        assert_eq!(set_up, Ok(()), "set up of capacity {n}");
-        both.assert_alike(&"set up");
+        assert_eq!(both.set_up(), Ok(()), "set up of capacity {n}");
         both
     }
 
@@ -49,6 +45,12 @@ impl Both {
     /// The tables, which both have alike.
     pub fn tables(&self) -> &Tables {
         &self.outside
+    }
+
+    /// Sets up the tables.
+    #[track_caller]
+    pub fn set_up(&mut self) -> Result<(), u8> {
+        self.call(&"set up", proved::set_up, calls::set_up)
     }
 
     /// Takes in a change.

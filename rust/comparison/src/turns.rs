@@ -37,11 +37,11 @@ pub enum TurnEvent {
     Marked,
     MarkedWriter,
     /// A later Valid change that read a changed setting is not marked: there is a writer between.
-    NotMarkedBehindWriter,
+    NextWriterStops,
     /// The view has a changed setting's new value, or the previous writer's since a write is gone,
     /// or what a later writer wrote.
     ViewWritten,
-    ViewOfPreviousWriter,
+    ViewOnRemoval,
     ViewOfLaterWriter,
 }
 
@@ -113,14 +113,14 @@ fn setting_events(
             match after.status(place) {
                 Status::Invalid if writes(place) => events.push(TurnEvent::MarkedWriter),
                 Status::Invalid => events.push(TurnEvent::Marked),
-                _ => events.push(TurnEvent::NotMarkedBehindWriter),
+                _ => events.push(TurnEvent::NextWriterStops),
             }
         }
     }
     events.push(match values.1 {
         _ if later().any(writes) => TurnEvent::ViewOfLaterWriter,
         Some(_) => TurnEvent::ViewWritten,
-        None => TurnEvent::ViewOfPreviousWriter,
+        None => TurnEvent::ViewOnRemoval,
     });
 }
 

@@ -110,9 +110,9 @@ fn turns_and_drains_leave_the_same_tables() {
         Event::Turn(TurnEvent::RewrittenEqual),
         Event::Turn(TurnEvent::Marked),
         Event::Turn(TurnEvent::MarkedWriter),
-        Event::Turn(TurnEvent::NotMarkedBehindWriter),
+        Event::Turn(TurnEvent::NextWriterStops),
         Event::Turn(TurnEvent::ViewWritten),
-        Event::Turn(TurnEvent::ViewOfPreviousWriter),
+        Event::Turn(TurnEvent::ViewOnRemoval),
         Event::Turn(TurnEvent::ViewOfLaterWriter),
     ] {
         reached.assert_at_least(TABLES / 20, event);

@@ -127,6 +127,32 @@ fn random_packages_are_listed() {
     }
 }
 
+/// Packages with a breach of the layout, and with bytes changed, which may keep it.
+#[test]
+fn damaged_packages_are_listed() {
+    let random = &mut Random::new(generate::seed());
+    let [mut refused, mut kept] = [0; 2];
+    for index in 0..PACKAGES {
+        let mut package = lay_out(&packages::entries(random, &[]));
+        if index % 2 == 0 {
+            random.pick(&Breach::ALL).make(random, &mut package);
+        } else {
+            for _ in 0..=random.below(3) {
+                let place = random.below(package.len());
+                package[place] ^= 1 << random.below(8);
+            }
+        }
+        match assert_listed(&package).as_str() {
+            "package refused 3\n" => refused += 1,
+            _ => kept += 1,
+        }
+    }
+    println!("{refused} refused, {kept} of another layout");
+    for count in [refused, kept] {
+        assert!(count >= PACKAGES / 8, "{count}");
+    }
+}
+
 #[test]
 fn bad_packages_give_one_line() {
     let random = &mut Random::new(generate::seed());

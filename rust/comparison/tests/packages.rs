@@ -58,7 +58,7 @@ fn random_packages_have_the_same_answers() {
     let mut reached = Reached::default();
     for _ in 0..PACKAGES {
         let n = capacity(random);
-        let mut both = Both::set_up(n);
+        let mut both = Both::just_set_up(n);
         for _ in 0..3 {
             let held = both.tables().timestamps[..both.tables().held_count()].to_vec();
             let entries = packages::entries(random, &held);
@@ -119,7 +119,7 @@ fn every_breach_of_layout_is_refused() {
     for breach in Breach::ALL {
         let mut broken = 0;
         while broken < BROKEN {
-            let mut both = Both::set_up(1 + random.below(16));
+            let mut both = Both::just_set_up(1 + random.below(16));
             let entries = packages::entries(random, &[]);
             let mut package = lay_out(&entries);
             if breach.make(random, &mut package).is_some() {
@@ -148,7 +148,7 @@ fn random_bytes_have_the_same_answers() {
         if length > 2 && random.below(2) == 0 {
             bytes[..2].copy_from_slice(&[((length - 2) / ENTRY_BYTES) as u8, 0]);
         }
-        let answer = take_in(random, &mut Both::set_up(4), &bytes);
+        let answer = take_in(random, &mut Both::just_set_up(4), &bytes);
         reached.count(match answer {
             Ok(_) => Event::RandomGood,
             Err(_) => Event::RandomBad,
@@ -198,7 +198,7 @@ fn packages_at_the_bounds_have_the_same_answers() {
     for package in packages {
         let expected = entries(&package).map(|entries| entries.len());
         good += usize::from(expected.is_some());
-        let mut both = Both::set_up(MAX_ENTRIES);
+        let mut both = Both::just_set_up(MAX_ENTRIES);
         match take_in(random, &mut both, &package) {
             Ok(_) => assert_eq!(expected, Some(both.tables().held_count())),
             Err(refusal) => assert_eq!((expected, refusal), (None, 3)),

@@ -15,14 +15,14 @@ use outside::package::{entries, Entry, ALREADY_HELD, DONE};
 use outside::program::SETTINGS;
 use outside::tables::{Status, Tables, MAX_CAPACITY};
 
+/// The highest capacity of the tables of most lists. Each capacity from 1 on has as many lists.
+const CAPACITIES: usize = 64;
+
 /// How many lists of calls are made on both.
-const SCRIPTS: usize = 1_500;
+const SCRIPTS: usize = 40 * CAPACITIES;
 
 /// How many lists of calls are made on the proved library alone.
-const SCRIPTS_ALONE: usize = 1_000;
-
-/// How many calls each list has.
-const CALLS: usize = 60;
+const SCRIPTS_ALONE: usize = 16 * CAPACITIES;
 
 /// What the lists of calls are to reach.
 #[derive(Clone, Copy, Debug, PartialEq, Eq, PartialOrd, Ord)]
@@ -47,6 +47,8 @@ enum Event {
     /// A change that was Valid before a drain has a turn in it.
     DrainMarks,
     Drained,
+    /// Tables that hold changes are set up again.
+    SetUp,
 }
 
 /// A list of calls, made on both.
@@ -58,9 +60,35 @@ struct Script {
 impl Script {
     fn new(n: usize) -> Self {
         Self {
-            both: Both::set_up(n),
+            both: Both::just_set_up(n),
             calls: Vec::new(),
         }
+    }
+
+    /// Sets up the tables: another list of calls begins.
+    fn set_up(&mut self, reached: &mut Reached<Event>) {
+        reached.count_if(self.both.tables().held_count() > 0, Event::SetUp);
+        assert_eq!(self.both.set_up(), Ok(()));
+        self.calls.clear();
+    }
+
+    /// Makes random calls, a drain last, and queries between them.
+    fn make_all(
+        &mut self,
+        random: &mut Random,
+        source: &mut Source,
+        calls: usize,
+        reached: &mut Reached<Event>,
+    ) {
+        for _ in 0..calls {
+            let call = source.call(random, self.both.tables());
+            self.make(call, reached);
+            if random.below(2) == 0 {
+                let (timestamp, setting) = (source.timestamp(random), source.setting(random));
+                self.both.query(timestamp, setting);
+            }
+        }
+        self.drain(reached);
     }
 
     /// Makes a call and counts what comes of it.
@@ -200,32 +228,27 @@ fn count_package(
     }
 }
 
-/// A capacity: small, so that tables are soon full, or one that a list of calls may just fill.
-fn capacity(random: &mut Random) -> usize {
-    match random.below(6) {
-        0 => 1 + random.below(6),
-        _ => 12 + random.below(16),
-    }
+/// How many calls a list has: some lists fill the tables.
+fn calls_in_list(random: &mut Random, n: usize) -> usize {
+    30 + random.below(3 * n)
 }
 
 #[test]
 fn lists_of_calls_have_the_same_answers_and_tables_and_meet_demand_3() {
     let random = &mut Random::new(generate::seed());
     let mut reached = Reached::default();
-    for _ in 0..SCRIPTS {
-        let n = capacity(random);
-        let mut source = Source::new(random, n);
+    for index in 0..SCRIPTS {
+        let n = 1 + index % CAPACITIES;
         let mut script = Script::new(n);
-        for _ in 0..CALLS {
-            let call = source.call(random, script.both.tables());
-            script.make(call, &mut reached);
-            if random.below(2) == 0 {
-                script
-                    .both
-                    .query(source.timestamp(random), source.setting(random));
-            }
+        if random.below(8) == 0 {
+            let count = calls_in_list(random, n);
+            let source = &mut Source::new(random, n);
+            script.make_all(random, source, count, &mut reached);
+            script.set_up(&mut reached);
         }
-        script.drain(&mut reached);
+        let count = calls_in_list(random, n);
+        let source = &mut Source::new(random, n);
+        script.make_all(random, source, count, &mut reached);
     }
 
     reached.print();
@@ -255,6 +278,7 @@ fn lists_of_calls_have_the_same_answers_and_tables_and_meet_demand_3() {
         Event::HeldWhenFull,
         Event::DrainOfNone,
         Event::DrainMarks,
+        Event::SetUp,
         Event::Withdrawn(Status::Invalid),
         Event::Turn(TurnEvent::Answered(Turned::Stood)),
         Event::Turn(TurnEvent::Faulted),
@@ -267,8 +291,8 @@ fn lists_of_calls_have_the_same_answers_and_tables_and_meet_demand_3() {
         Event::Turn(TurnEvent::Rewritten),
         Event::Turn(TurnEvent::RewrittenEqual),
         Event::Turn(TurnEvent::MarkedWriter),
-        Event::Turn(TurnEvent::NotMarkedBehindWriter),
-        Event::Turn(TurnEvent::ViewOfPreviousWriter),
+        Event::Turn(TurnEvent::NextWriterStops),
+        Event::Turn(TurnEvent::ViewOnRemoval),
     ] {
         reached.assert_at_least(SCRIPTS / 20, event);
     }
@@ -339,15 +363,16 @@ fn turn_alone(n: usize, tables: &mut tolbezun::Tables) -> Option<LoggedTurn> {
 fn lists_of_calls_on_the_proved_library_alone_meet_demand_3() {
     let random = &mut Random::new(generate::seed() + 1);
     let mut drained = 0;
-    for _ in 0..SCRIPTS_ALONE {
-        let n = capacity(random);
+    for index in 0..SCRIPTS_ALONE {
+        let n = 1 + index % CAPACITIES;
         let mut source = Source::new(random, n);
         let mut tables = tolbezun::Tables::new(n);
         assert_eq!(proved::set_up(n, &mut tables), Ok(()));
         let mut calls = Vec::new();
-        for index in 0..=CALLS {
+        let last = calls_in_list(random, n);
+        for index in 0..=last {
             let call = match index {
-                CALLS => Call::Drain,
+                _ if index == last => Call::Drain,
                 _ => source.call(random, &proved::take_back(&tables)),
             };
             calls.push(make_alone(n, &mut tables, call));
@@ -362,39 +387,61 @@ fn lists_of_calls_on_the_proved_library_alone_meet_demand_3() {
     assert!(drained > 4 * SCRIPTS_ALONE, "{drained}");
 }
 
-/// Full tables of the highest capacity.
+/// Full tables of the highest capacity, and calls on them.
 #[test]
-fn capacity_4096_has_the_same_answers_and_tables() {
+fn full_tables_of_capacity_4096_have_the_same_answers_and_tables() {
     let random = &mut Random::new(generate::seed());
-    let mut both = Both::set_up(MAX_CAPACITY);
+    let mut both = Both::just_set_up(MAX_CAPACITY);
     let source = Source::new(random, MAX_CAPACITY);
     // By falling timestamp: every third arrives last, after a drain.
     let mut timestamps: Vec<u64> = (1..=MAX_CAPACITY as u64).rev().collect();
     timestamps.sort_by_key(|timestamp| timestamp % 3 == 0);
-    let package = |timestamps: &[u64], random: &mut Random| {
-        let change = |&timestamp| Entry::Change {
-            timestamp,
-            program: source.program(random),
-        };
-        let entries: Vec<Entry> = timestamps.iter().map(change).collect();
-        generate::packages::lay_out(&entries)
-    };
     let (first, last) = timestamps.split_at(MAX_CAPACITY - MAX_CAPACITY / 3);
     for timestamps in [first, last] {
         for timestamps in timestamps.chunks(256) {
+            let change = |&timestamp| Entry::Change {
+                timestamp,
+                program: source.program(random),
+            };
+            let entries: Vec<Entry> = timestamps.iter().map(change).collect();
+            let package = generate::packages::lay_out(&entries);
             let mut answers = vec![99; 512];
-            let taken = both.take_in_package(&package(timestamps, random), &mut answers);
-            assert_eq!(taken, Ok(()));
-            assert!(answers[..timestamps.len()]
-                .iter()
-                .all(|&answer| answer == DONE));
+            assert_eq!(both.take_in_package(&package, &mut answers), Ok(()));
+            let mut answers = answers[..timestamps.len()].iter();
+            assert!(answers.all(|&answer| answer == DONE));
         }
         let totals = both.drain().expect("the tables are in form");
         println!("{totals:?}");
         assert!(totals.ran as usize >= timestamps.len(), "{totals:?}");
     }
     assert_eq!(both.take_in(MAX_CAPACITY as u64 + 1, &[]), Err(9));
+    for &timestamp in &timestamps[..6] {
+        assert_eq!(both.withdraw(timestamp), Ok(()));
+        assert!(both.turn().is_ok());
+        both.query(timestamp, source.setting(random));
+    }
+    assert!(both.drain().is_ok());
     let mut plain = [0; SETTINGS];
     assert_eq!(plain_run(MAX_CAPACITY, both.tables(), &mut plain), Ok(()));
     assert!(both.tables().view == plain);
+}
+
+/// Lists of calls at the highest capacity, with so many changes taken in first.
+#[test]
+fn lists_of_calls_at_capacity_4096_have_the_same_answers_and_tables_and_meet_demand_3() {
+    let random = &mut Random::new(generate::seed());
+    let mut reached = Reached::default();
+    for held in [0, 1, 100, 250, 500] {
+        let source = &mut Source::new(random, MAX_CAPACITY);
+        let mut script = Script::new(MAX_CAPACITY);
+        for _ in 0..held {
+            let (timestamp, program) = source.new_change(random).expect("there are enough");
+            script.make(Call::TakeIn { timestamp, program }, &mut reached);
+        }
+        script.make_all(random, source, 60, &mut reached);
+    }
+    reached.print();
+    reached.assert_at_least(5, Event::Drained);
+    reached.assert_at_least(400, Event::Turn(TurnEvent::RanFirst));
+    reached.assert_at_least(5, Event::Turn(TurnEvent::RanAgain));
 }

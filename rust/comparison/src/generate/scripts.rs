@@ -5,6 +5,7 @@ use super::{damage, tables, Random, Settings, EXTREMES};
 use outside::package::{Entry, ANSWERS};
 use outside::program::{op, Instruction, INSTRUCTION_BYTES, MAX_INSTRUCTIONS, SETTINGS};
 use outside::tables::{Status, Tables, INFINITY, LIST_ENTRIES, PROGRAM_BYTES};
+use std::collections::HashSet;
 
 /// A call that may alter the tables, with its arguments besides N and the tables.
 #[derive(Clone, Debug)]
@@ -131,18 +132,25 @@ impl Source {
             }
             _ => {}
         }
-        let unsent: Vec<u64> = self
-            .timestamps
-            .iter()
-            .copied()
-            .filter(|timestamp| self.sent.iter().all(|(sent, _)| sent != timestamp))
+        match self.new_change(random) {
+            Some(change) => change,
+            None => (self.timestamp(random), program),
+        }
+    }
+
+    /// A change that was not sent, or none where all timestamps were.
+    pub fn new_change(&mut self, random: &mut Random) -> Option<(u64, Vec<u8>)> {
+        let sent: HashSet<u64> = self.sent.iter().map(|&(timestamp, _)| timestamp).collect();
+        let unsent = self.timestamps.iter().copied();
+        let unsent: Vec<u64> = unsent
+            .filter(|timestamp| !sent.contains(timestamp))
             .collect();
         if unsent.is_empty() {
-            return (self.timestamp(random), program);
+            return None;
         }
-        let timestamp = random.pick(&unsent);
-        self.sent.push((timestamp, program.clone()));
-        (timestamp, program)
+        let change = (random.pick(&unsent), self.program(random));
+        self.sent.push(change.clone());
+        Some(change)
     }
 
     /// A package of few entries: most often one that keeps the layout.

@@ -1,0 +1,90 @@
+//! Programs in C that include the header and link the static library.
+
+use std::path::{Path, PathBuf};
+use std::process::Command;
+
+/// The repository.
+fn root() -> PathBuf {
+    Path::new(env!("CARGO_MANIFEST_DIR")).join("../..")
+}
+
+/// Runs the C compiler with all warnings as errors.
+#[track_caller]
+fn compile(arguments: &[&Path]) {
+    let output = Command::new("cc")
+        .args(["-Wall", "-Wextra", "-Werror", "-pedantic", "-I"])
+        .arg(root().join("include"))
+        .args(arguments)
+        .output()
+        .expect("the C compiler runs");
+    assert!(
+        output.status.success(),
+        "{}",
+        String::from_utf8_lossy(&output.stderr)
+    );
+}
+
+/// Compiles and runs a program, and returns what it prints.
+#[track_caller]
+fn run(source: &Path) -> String {
+    let stem = source.file_stem().expect("this is the path of a file");
+    let program = Path::new(env!("CARGO_TARGET_TMPDIR")).join(stem);
+    compile(&[
+        Path::new("-std=c99"),
+        source,
+        Path::new(env!("EXPORTS_ARCHIVE")),
+        Path::new("-o"),
+        &program,
+    ]);
+    let output = Command::new(&program).output().expect("the program runs");
+    assert!(output.status.success(), "{}", output.status);
+    String::from_utf8(output.stdout).expect("it prints ASCII")
+}
+
+#[test]
+fn the_header_is_c_plus_plus_too() {
+    let header = root().join("include/tolbezun.h");
+    compile(&[
+        Path::new("-x"),
+        Path::new("c++"),
+        Path::new("-fsyntax-only"),
+        &header,
+    ]);
+}
+
+#[test]
+fn the_example_shows_the_power_left() {
+    let expected = "\
+10 gives 400, 30 takes 300: 2 ran, 0 stood, 0 cleared; power left 100, alarm 0
+20 takes 200, late: 2 ran, 0 stood, 0 cleared; power left -100, alarm 1
+20 is withdrawn: 1 ran, 0 stood, 1 cleared; power left 100, alarm 0
+";
+    assert_eq!(run(&root().join("examples/power.c")), expected);
+}
+
+/// Answers as the header says, slices that keep their contents, and nothing lent.
+#[test]
+fn edges_are_as_the_header_says() {
+    let expected = "\
+set_up 1 1 0
+nothing lent 1 1
+take_in 0 255 8 0 9 4 6 7
+turn 17 77 77
+turn 17 77 77
+turn 1 1 77
+turn 1 18446744073709551614 77
+turn 0 78 77
+drain 1 77 77 77
+drain 1 77 77 77
+drain 0 0 0 0
+current_value -5 4294967301 4294967297
+value_as_of -5 0 4294967300
+withdraw 0 11 10
+standing 258 1 65546
+take_in_package 1 1 3 0: 10 99
+plain_run 1 99 0: 0 -5 99
+not in form 2 18 2 65538
+";
+    let edges = Path::new(env!("CARGO_MANIFEST_DIR")).join("tests/edges.c");
+    assert_eq!(run(&edges), expected);
+}

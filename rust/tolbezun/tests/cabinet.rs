@@ -1,0 +1,249 @@
+//! A cabinet's calls, their answers by name, and what people read.
+
+use tolbezun::{
+    program, setting, Cabinet, Instruction, Refusal, Standing, Status, Tables, Taken, Totals,
+    Turned, MAX_CAPACITY, SETTINGS,
+};
+
+/// A change that sets a setting.
+fn set(setting: i32, n: i32) -> Vec<u8> {
+    program(&[
+        Instruction::Constant { a: 0, n },
+        Instruction::Write { a: 0, setting },
+    ])
+}
+
+/// A change that copies a setting to another.
+fn copy(from: i32, to: i32) -> Vec<u8> {
+    program(&[
+        Instruction::Read {
+            a: 0,
+            setting: from,
+        },
+        Instruction::Write { a: 0, setting: to },
+    ])
+}
+
+#[test]
+fn every_instruction_has_the_bytes_of_the_table() {
+    let table = [
+        (Instruction::Stop, [0, 0, 0, 0, 0, 0, 0, 0]),
+        (
+            Instruction::Constant { a: 7, n: -2 },
+            [1, 7, 0, 0, 254, 255, 255, 255],
+        ),
+        (Instruction::Copy { a: 1, b: 2 }, [2, 1, 2, 0, 0, 0, 0, 0]),
+        (
+            Instruction::Add { a: 1, b: 2, c: 3 },
+            [3, 1, 2, 3, 0, 0, 0, 0],
+        ),
+        (
+            Instruction::Subtract { a: 1, b: 2, c: 3 },
+            [4, 1, 2, 3, 0, 0, 0, 0],
+        ),
+        (Instruction::Negate { a: 1, b: 2 }, [5, 1, 2, 0, 0, 0, 0, 0]),
+        (
+            Instruction::ShiftRight { a: 1, b: 2, n: 31 },
+            [6, 1, 2, 0, 31, 0, 0, 0],
+        ),
+        (
+            Instruction::CountOnes { a: 1, b: 2 },
+            [7, 1, 2, 0, 0, 0, 0, 0],
+        ),
+        (
+            Instruction::And { a: 1, b: 2, c: 3 },
+            [8, 1, 2, 3, 0, 0, 0, 0],
+        ),
+        (
+            Instruction::Or { a: 1, b: 2, c: 3 },
+            [9, 1, 2, 3, 0, 0, 0, 0],
+        ),
+        (
+            Instruction::Xor { a: 1, b: 2, c: 3 },
+            [10, 1, 2, 3, 0, 0, 0, 0],
+        ),
+        (
+            Instruction::Read {
+                a: 1,
+                setting: 1023,
+            },
+            [11, 1, 0, 0, 255, 3, 0, 0],
+        ),
+        (
+            Instruction::ReadIndexed { a: 1, b: 2 },
+            [12, 1, 2, 0, 0, 0, 0, 0],
+        ),
+        (
+            Instruction::Write {
+                a: 1,
+                setting: 1023,
+            },
+            [13, 1, 0, 0, 255, 3, 0, 0],
+        ),
+        (
+            Instruction::WriteIndexed { a: 1, b: 2 },
+            [14, 1, 2, 0, 0, 0, 0, 0],
+        ),
+        (
+            Instruction::SkipIfNegative { b: 2, n: 2 },
+            [15, 0, 2, 0, 2, 0, 0, 0],
+        ),
+        (
+            Instruction::SkipIfZero { b: 2, n: 1 },
+            [16, 0, 2, 0, 1, 0, 0, 0],
+        ),
+        (Instruction::Skip { n: 0 }, [17, 0, 0, 0, 0, 0, 0, 0]),
+    ];
+    for (instruction, bytes) in table {
+        assert_eq!(instruction.to_bytes(), bytes, "{instruction:?}");
+    }
+    // The library accepts them all.
+    let all = table.map(|(instruction, _)| instruction);
+    let mut cabinet = Cabinet::new(1).unwrap();
+    assert_eq!(cabinet.take_in(1, &program(&all)), Ok(Taken::Done));
+}
+
+#[test]
+fn capacities_other_than_1_to_4096_are_refused() {
+    for capacity in [0, MAX_CAPACITY + 1, usize::MAX] {
+        assert_eq!(Cabinet::new(capacity), Err(Refusal::Length));
+    }
+    for capacity in [1, MAX_CAPACITY] {
+        let cabinet = Cabinet::new(capacity).unwrap();
+        assert_eq!(cabinet.capacity(), capacity);
+        assert_eq!(*cabinet.tables(), Tables::new(capacity));
+    }
+}
+
+#[test]
+fn calls_answer_by_name() {
+    let mut cabinet = Cabinet::new(3).unwrap();
+    assert_eq!(cabinet.turn(), Ok(Turned::Idle));
+    assert_eq!(cabinet.take_in(30, &copy(34, 50)), Ok(Taken::Done));
+    assert_eq!(cabinet.take_in(30, &copy(34, 50)), Ok(Taken::AlreadyHeld));
+    assert_eq!(cabinet.turn(), Ok(Turned::Ran(30)));
+    assert_eq!(cabinet.take_in(10, &set(34, 7)), Ok(Taken::Done));
+    assert_eq!(cabinet.turn(), Ok(Turned::Ran(10)));
+    let standing = |status, withdrawn| Ok(Standing { status, withdrawn });
+    assert_eq!(cabinet.standing(30), standing(Status::Invalid, false));
+    assert_eq!(cabinet.take_in(20, &set(34, 0)), Ok(Taken::Done));
+    assert_eq!(cabinet.standing(20), standing(Status::New, false));
+    assert_eq!(cabinet.turn(), Ok(Turned::Ran(20)));
+    assert_eq!(cabinet.turn(), Ok(Turned::Stood(30)));
+    assert_eq!(cabinet.withdraw(20), Ok(()));
+    assert_eq!(cabinet.standing(20), standing(Status::Invalid, true));
+    let single = cabinet.clone().turn();
+    assert_eq!(single, Ok(Turned::Cleared(20)));
+    let totals = Totals {
+        ran: 1,
+        stood: 0,
+        cleared: 1,
+    };
+    assert_eq!(cabinet.drain(), Ok(totals));
+    assert_eq!(cabinet.current_value(50), Ok(7));
+    assert_eq!(cabinet.value_as_of(10, 34), Ok(0));
+    assert_eq!(cabinet.value_as_of(u64::MAX, 34), Ok(7));
+    assert_eq!(cabinet.plain_run(), Ok(cabinet.tables().view.clone()));
+    assert_eq!(cabinet.set_up(), Ok(()));
+    assert_eq!(cabinet, Cabinet::new(3).unwrap());
+}
+
+#[test]
+fn a_package_has_an_answer_for_each_entry() {
+    let (take, withdrawal) = ([0, 1, 0, 0], [1, 0, 0, 0]);
+    let mut package = vec![4, 0];
+    for (timestamp, rest) in [
+        (20u64, take),
+        (15, withdrawal),
+        (20, take),
+        (20, withdrawal),
+    ] {
+        package.extend(timestamp.to_le_bytes());
+        package.extend(rest);
+    }
+    package.extend(program(&[Instruction::Stop, Instruction::Stop]));
+    let mut cabinet = Cabinet::new(1).unwrap();
+    let answers = vec![
+        Ok(Taken::Done),
+        Err(Refusal::NotHeld),
+        Ok(Taken::AlreadyHeld),
+        Ok(Taken::Done),
+    ];
+    assert_eq!(cabinet.take_in_package(&package), Ok(answers));
+    assert_eq!(cabinet.take_in_package(&[0, 0]), Ok(vec![]));
+    let before = cabinet.clone();
+    for bad in [&[][..], &[0], &[0, 0, 0], &package[..package.len() - 1]] {
+        assert_eq!(cabinet.take_in_package(bad), Err(Refusal::Package));
+    }
+    assert_eq!(cabinet, before);
+}
+
+#[test]
+fn every_refusal_has_its_number_and_its_call() {
+    let mut cabinet = Cabinet::new(1).unwrap();
+    assert_eq!(cabinet.take_in(5, &set(1, 1)), Ok(Taken::Done));
+    let mut short = Tables::new(1);
+    short.view.pop();
+    let mut broken = Tables::new(1);
+    broken.held[0] = 2;
+    let mut withdrawn = cabinet.clone();
+    assert_eq!(withdrawn.withdraw(5), Ok(()));
+    let refused = [
+        Cabinet::with_tables(1, short).drain().err(),
+        Cabinet::with_tables(1, broken).turn().err(),
+        cabinet.take_in_package(&[1, 0]).err(),
+        cabinet.withdraw(0).err(),
+        cabinet.current_value(SETTINGS).err(),
+        cabinet.take_in(5, &[0; 264]).err(),
+        cabinet.take_in(5, &[18, 0, 0, 0, 0, 0, 0, 0]).err(),
+        cabinet.take_in(5, &[]).err(),
+        cabinet.take_in(6, &[]).err(),
+        cabinet.standing(6).err(),
+        withdrawn.withdraw(5).err(),
+    ];
+    assert_eq!(refused, Refusal::ALL.map(Some));
+    for (number, refusal) in (1..).zip(Refusal::ALL) {
+        assert_eq!(refusal.number(), number);
+        assert_eq!(Refusal::from_number(number), Some(refusal));
+        assert!(refusal
+            .to_string()
+            .starts_with(&format!("refused {number}: ")));
+    }
+    for number in [0, 12, 255] {
+        assert_eq!(Refusal::from_number(number), None);
+    }
+}
+
+#[test]
+fn answers_read_as_people_say_them() {
+    let totals = Totals {
+        ran: 2,
+        stood: 1,
+        cleared: 0,
+    };
+    let standing = |status, withdrawn| Standing { status, withdrawn };
+    for (said, expected) in [
+        (Taken::Done.to_string(), "done"),
+        (Taken::AlreadyHeld.to_string(), "already held"),
+        (Turned::Idle.to_string(), "idle"),
+        (Turned::Ran(20).to_string(), "20 ran"),
+        (Turned::Stood(30).to_string(), "30 stood"),
+        (Turned::Cleared(10).to_string(), "10 was cleared"),
+        (totals.to_string(), "2 ran, 1 stood, 0 cleared"),
+        (standing(Status::New, false).to_string(), "New"),
+        (
+            standing(Status::Invalid, true).to_string(),
+            "Invalid, withdrawn",
+        ),
+        (Refusal::Full.to_string(), "refused 9: the tables are full"),
+    ] {
+        assert_eq!(said, expected);
+    }
+}
+
+#[test]
+fn settings_are_numbered_by_port_and_field() {
+    assert_eq!(setting(0, 0), 0);
+    assert_eq!(setting(2, 4), 36);
+    assert_eq!(setting(63, 15), SETTINGS - 1);
+}

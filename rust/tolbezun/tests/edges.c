@@ -1,0 +1,93 @@
+/* Calls at the edges of the header: each line is what a call answers and leaves. */
+#include "tolbezun.h"
+
+#include <inttypes.h>
+#include <stdio.h>
+
+#define N 2
+static uint16_t held[1], order[N], status[N], withdrawn[N], length[N], read_count[N], write_count[N];
+static uint16_t read_settings[32 * N], write_settings[32 * N];
+static uint64_t timestamps[N];
+static uint8_t programs[256 * N];
+static int32_t seen_values[32 * N], written_values[32 * N], view[1024];
+
+#define LENT(CAPACITY)                                                                              \
+    CAPACITY, held, 1, timestamps, N, order, N, status, N, withdrawn, N, length, N, programs,       \
+        256 * N, read_count, N, write_count, N, read_settings, 32 * N, seen_values, 32 * N,         \
+        write_settings, 32 * N, written_values, 32 * N, view, 1024
+#define TABLES LENT(N)
+#define NOTHING                                                                                     \
+    NULL, 0, NULL, 0, NULL, 0, NULL, 0, NULL, 0, NULL, 0, NULL, 0, NULL, 0, NULL, 0, NULL, 0, NULL, \
+        0, NULL, 0, NULL, 0, NULL, 0
+
+/* r0 = -5; setting 1023 = r0 */
+static const uint8_t change[] = {1, 0, 0, 0, 0xFB, 0xFF, 0xFF, 0xFF, 13, 0, 0, 0, 0xFF, 3, 0, 0};
+
+/* One entry: the withdrawal of 15. */
+static const uint8_t package[] = {1, 0, 15, 0, 0, 0, 0, 0, 0, 0, 1, 0, 0, 0};
+
+static uint64_t timestamp[2] = {77, 77};
+static uint64_t totals[4] = {77, 77, 77, 77};
+static uint8_t answers[513];
+static int32_t settings[1025];
+
+static void turn(size_t entries)
+{
+    int answer = tolbezun_turn(TABLES, timestamp, entries);
+    printf("turn %d %" PRIu64 " %" PRIu64 "\n", answer, timestamp[0], timestamp[1]);
+}
+
+static void drain(size_t entries)
+{
+    int answer = tolbezun_drain(TABLES, totals, entries);
+    printf("drain %d %" PRIu64 " %" PRIu64 " %" PRIu64 "\n", answer, totals[0], totals[1], totals[2]);
+}
+
+int main(void)
+{
+    printf("set_up %d %d %d\n", tolbezun_set_up(LENT(0)), tolbezun_set_up(LENT(N + 1)), tolbezun_set_up(TABLES));
+    printf("nothing lent %d %d\n", tolbezun_set_up(1, NOTHING), tolbezun_plain_run(0, NOTHING, NULL, 0));
+    printf("take_in %d", tolbezun_take_in(TABLES, 1, NULL, 0));
+    printf(" %d", tolbezun_take_in(TABLES, 1, NULL, 0));
+    printf(" %d", tolbezun_take_in(TABLES, 1, change, sizeof change));
+    printf(" %d", tolbezun_take_in(TABLES, UINT64_MAX - 1, change, sizeof change));
+    printf(" %d", tolbezun_take_in(TABLES, 2, change, sizeof change));
+    printf(" %d", tolbezun_take_in(TABLES, UINT64_MAX, change, sizeof change));
+    printf(" %d", tolbezun_take_in(TABLES, 2, change, 7));
+    printf(" %d\n", tolbezun_take_in(TABLES, 2, change + 1, 8));
+    turn(0);
+    turn(2);
+    turn(1);
+    turn(1);
+    timestamp[0] = 78;
+    turn(1);
+    drain(2);
+    drain(4);
+    drain(3);
+    printf("current_value %" PRId64 " %" PRId64 " %" PRId64 "\n", tolbezun_current_value(TABLES, 1023),
+           tolbezun_current_value(TABLES, 1024), tolbezun_current_value(LENT(3), 0));
+    printf("value_as_of %" PRId64 " %" PRId64 " %" PRId64 "\n", tolbezun_value_as_of(TABLES, UINT64_MAX, 1023),
+           tolbezun_value_as_of(TABLES, UINT64_MAX - 1, 1023), tolbezun_value_as_of(TABLES, 0, 1023));
+    printf("withdraw %d", tolbezun_withdraw(TABLES, 1));
+    printf(" %d", tolbezun_withdraw(TABLES, 1));
+    printf(" %d\n", tolbezun_withdraw(TABLES, 2));
+    printf("standing %" PRIu32 " %" PRIu32 " %" PRIu32 "\n", tolbezun_standing(TABLES, 1),
+           tolbezun_standing(TABLES, UINT64_MAX - 1), tolbezun_standing(TABLES, 2));
+    answers[1] = 99;
+    printf("take_in_package %d", tolbezun_take_in_package(TABLES, package, sizeof package, answers, 511));
+    printf(" %d", tolbezun_take_in_package(TABLES, package, sizeof package, answers, 513));
+    printf(" %d", tolbezun_take_in_package(TABLES, package, sizeof package - 1, answers, 512));
+    printf(" %d", tolbezun_take_in_package(TABLES, package, sizeof package, answers, 512));
+    printf(": %d %d\n", answers[0], answers[1]);
+    settings[0] = settings[1024] = 99;
+    printf("plain_run %d", tolbezun_plain_run(TABLES, settings, 1025));
+    printf(" %" PRId32, settings[0]);
+    printf(" %d", tolbezun_plain_run(TABLES, settings, 1024));
+    printf(": %" PRId32 " %" PRId32 " %" PRId32 "\n", settings[0], settings[1023], settings[1024]);
+    status[0] = 3;
+    printf("not in form %d", tolbezun_withdraw(TABLES, 1));
+    printf(" %d", tolbezun_turn(TABLES, timestamp, 1));
+    printf(" %d", tolbezun_drain(TABLES, totals, 3));
+    printf(" %" PRIu32 "\n", tolbezun_standing(TABLES, 1));
+    return 0;
+}
