@@ -2,14 +2,12 @@
 //!
 //! The tests run random and chosen programs through both interpreters, make the calls of both on
 //! random and chosen tables and in random lists, check demand 3 after each drain of such a list, and
-//! run the program `cabinet`. The programs `bench`, `bench_form` and `bench_calls` time the
-//! interpreters, the test of the tables' form, and the calls as the history grows:
+//! run the program `cabinet`. The program `bench` times the calls as the history grows, late changes,
+//! the test of the tables' form and the interpreters:
 //!
 //! ```text
 //! cargo test --offline
 //! cargo run --release --offline --bin bench
-//! cargo run --release --offline --bin bench_form
-//! cargo run --release --offline --bin bench_calls
 //! ```
 
 #![warn(missing_docs)]

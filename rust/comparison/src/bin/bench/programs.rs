@@ -1,25 +1,14 @@
-//! Times the proved interpreter and the outside implementation on the same programs and values, in
-//! one process.
-//!
-//! ```text
-//! cargo run --release --offline --bin bench
-//! ```
+//! The interpreters on the same programs and values.
 
+use crate::timing::{best_in_turn, time};
 use comparison::agree;
 use comparison::generate::{self, Random, Style};
 use comparison::proved::{self, Accepted};
 use outside::program::{self, SETTINGS};
 use std::hint::black_box;
-use std::time::{Duration, Instant};
 
 /// How many programs are timed together.
 const PROGRAMS: usize = 1_000;
-
-/// How many rounds each of the two has. Its best counts.
-const ROUNDS: usize = 40;
-
-/// How long a round takes, about.
-const ROUND: Duration = Duration::from_millis(2);
 
 /// A kind of programs to time.
 struct Mix {
@@ -47,17 +36,15 @@ const MIXES: [Mix; 3] = [
     },
 ];
 
-fn main() {
-    if cfg!(debug_assertions) {
-        eprintln!("warning: not built for release");
-    }
-    let random = &mut Random::new(generate::seed());
+const HEADING: &str = "\
+In ns per program. The lists are not cleared between runs. The run does not test the form.
+
+                              run                        form
+mix         length  executed  proved  outside  ratio     proved  outside  ratio";
+
+pub fn print(random: &mut Random) {
     let values = generate::values(random);
-    println!("{PROGRAMS} programs each, ns per program, best of {ROUNDS} rounds in turn");
-    println!("The lists are not cleared between runs. The run does not test the form.");
-    println!();
-    println!("                              run                        form");
-    println!("mix         length  executed  proved  outside  ratio     proved  outside  ratio");
+    println!("{HEADING}");
     for mix in &MIXES {
         for length in [2, 8, 32] {
             let (programs, executed) = programs(random, mix, length, &values);
@@ -110,54 +97,41 @@ fn time_run(programs: &[Vec<u8>], values: &[i32; SETTINGS]) -> (f64, f64) {
         .collect();
     let mut proved = proved::Outcome::EMPTY;
     let mut outside = program::Outcome::EMPTY;
-    in_turn(
-        || {
-            for &program in &accepted {
-                black_box(program).run_into(black_box(values), &mut proved);
-                black_box(&mut proved);
-            }
+    for_each_in_turn(
+        &accepted,
+        |&program| {
+            black_box(program).run_into(black_box(values), &mut proved);
+            black_box(&mut proved);
         },
-        || {
-            for &program in &accepted {
-                program::run_into(black_box(program.bytes()), black_box(values), &mut outside);
-                black_box(&mut outside);
-            }
+        |&program| {
+            program::run_into(black_box(program.bytes()), black_box(values), &mut outside);
+            black_box(&mut outside);
         },
     )
 }
 
 fn time_form(programs: &[Vec<u8>]) -> (f64, f64) {
-    in_turn(
-        || {
-            for program in programs {
-                black_box(proved::refusal(black_box(program)));
-            }
+    for_each_in_turn(
+        programs,
+        |program| {
+            black_box(proved::refusal(black_box(program)));
         },
-        || {
-            for program in programs {
-                let _ = black_box(program::check(black_box(program)));
-            }
+        |program| {
+            let _ = black_box(program::check(black_box(program)));
         },
     )
 }
 
-/// The best time of each of the two passes over the programs, in ns per program.
-fn in_turn(mut proved: impl FnMut(), mut outside: impl FnMut()) -> (f64, f64) {
-    let first = time(1, &mut proved).max(time(1, &mut outside));
-    let passes = (ROUND.as_nanos() as f64 / (first * PROGRAMS as f64)).ceil() as usize;
-    let mut best = (f64::INFINITY, f64::INFINITY);
-    for _ in 0..ROUNDS {
-        best.0 = best.0.min(time(passes, &mut proved));
-        best.1 = best.1.min(time(passes, &mut outside));
-    }
-    best
-}
-
-/// The time of so many passes over the programs, in ns per program.
-fn time(passes: usize, pass: &mut impl FnMut()) -> f64 {
-    let start = Instant::now();
-    for _ in 0..passes {
-        pass();
-    }
-    start.elapsed().as_nanos() as f64 / (passes * PROGRAMS) as f64
+/// The best time of each of the two over the programs, in ns per program.
+fn for_each_in_turn<P>(
+    programs: &[P],
+    mut proved: impl FnMut(&P),
+    mut outside: impl FnMut(&P),
+) -> (f64, f64) {
+    let times = best_in_turn(&mut [
+        &mut || time(|| programs.iter().for_each(&mut proved)),
+        &mut || time(|| programs.iter().for_each(&mut outside)),
+    ]);
+    let each = |time: f64| 1_000.0 * time / programs.len() as f64;
+    (each(times[0]), each(times[1]))
 }

@@ -1,0 +1,147 @@
+//! The answer to a line: the call carried out on the tables.
+//!
+//! | answer | of |
+//! |---|---|
+//! | `done` | `set_up`, `take_in`, `withdraw`, `load` |
+//! | `held` | `take_in`: the same change is already held |
+//! | `idle`, `ran TS`, `stood TS`, `cleared TS` | `turn` |
+//! | `totals RAN STOOD CLEARED` | `drain` |
+//! | `value V` | `current`, `value_as_of` |
+//! | `standing STATUS FLAG` | `standing`: 0 New, 1 Valid, 2 Invalid; 1 withdrawn, else 0 |
+//! | `done answers [a, b, ..]` | `take_in_package`: for each entry 0 done, 255 already held, else the refusal |
+//! | `done [v, v, ..]` | `plain_run`: the 1,024 settings |
+//! | one line of JSON | `tables`: an object of fourteen lists |
+//! | `refused R` | all but `tables` and `load` |
+
+use crate::json;
+use crate::script::{Call, Quoted};
+use std::{fmt, fs, io};
+use tolbezun::calls::{self, ANSWERS};
+use tolbezun::{Refusal, Tables, Taken, Turned, MAX_CAPACITY, SETTINGS};
+
+/// A capacity, and the tables that each call is lent.
+pub struct Runner {
+    n: usize,
+    tables: Tables,
+}
+
+/// Why a line is not carried out although it is a call.
+#[derive(Debug)]
+pub enum Error {
+    /// There is no room for an answer slice of this length.
+    Room(usize),
+    /// The file to load cannot be read.
+    File(String, io::Error),
+    /// The file to load does not hold tables.
+    Contents(String, json::Error),
+}
+
+impl fmt::Display for Error {
+    fn fmt(&self, f: &mut fmt::Formatter<'_>) -> fmt::Result {
+        match self {
+            Self::Room(length) => write!(f, "there is no room for {length} answers"),
+            Self::File(file, error) => write!(f, "cannot read {}: {error}", Quoted(file)),
+            Self::Contents(file, error) => {
+                write!(f, "{} does not hold tables: {error}", Quoted(file))
+            }
+        }
+    }
+}
+
+impl std::error::Error for Error {}
+
+impl Runner {
+    /// A runner for this capacity, whatever it is, with 0 in every slot of its tables.
+    pub fn new(n: usize) -> Self {
+        // Above the highest capacity every call is refused, whatever the tables' lengths are: no
+        // more is allocated than for one above it.
+        let tables = Tables::new(n.min(MAX_CAPACITY + 1));
+        Self { n, tables }
+    }
+
+    /// Carries out a call and returns its answer. After an error the tables are as before.
+    pub fn answer(&mut self, call: &Call) -> Result<String, Error> {
+        let (n, tables) = (self.n, &mut self.tables);
+        let answer = match *call {
+            Call::SetUp => calls::set_up(n, tables).map(done),
+            Call::TakeIn {
+                timestamp,
+                ref program,
+            } => calls::take_in(n, tables, timestamp, program).map(taken),
+            Call::Withdraw { timestamp } => calls::withdraw(n, tables, timestamp).map(done),
+            Call::Turn => calls::turn(n, tables).map(turned),
+            Call::Drain => calls::drain(n, tables)
+                .map(|totals| format!("totals {} {} {}", totals.ran, totals.stood, totals.cleared)),
+            Call::CurrentValue { setting } => calls::current_value(n, tables, setting).map(value),
+            Call::ValueAsOf { timestamp, setting } => {
+                calls::value_as_of(n, tables, timestamp, setting).map(value)
+            }
+            Call::Standing { timestamp } => calls::standing(n, tables, timestamp).map(|standing| {
+                let flag = u8::from(standing.withdrawn);
+                format!("standing {} {flag}", standing.status.number())
+            }),
+            Call::TakeInPackage {
+                ref package,
+                answers,
+            } => {
+                let mut answers = zeros(answers.unwrap_or(ANSWERS))?;
+                calls::take_in_package(n, tables, package, &mut answers).map(|()| {
+                    answers.truncate(calls::entry_count(package));
+                    format!("done answers {answers:?}")
+                })
+            }
+            Call::PlainRun => {
+                let mut settings = [0; SETTINGS];
+                calls::plain_run(n, tables, &mut settings).map(|()| format!("done {settings:?}"))
+            }
+            Call::Tables => Ok(json::write(tables)),
+            Call::Load { ref file } => {
+                *tables = load(file)?;
+                Ok(done(()))
+            }
+        };
+        Ok(answer.unwrap_or_else(refused))
+    }
+}
+
+fn done((): ()) -> String {
+    "done".to_string()
+}
+
+fn taken(taken: Taken) -> String {
+    match taken {
+        Taken::Done => done(()),
+        Taken::AlreadyHeld => "held".to_string(),
+    }
+}
+
+fn turned(turned: Turned) -> String {
+    match turned {
+        Turned::Idle => "idle".to_string(),
+        Turned::Ran(timestamp) => format!("ran {timestamp}"),
+        Turned::Stood(timestamp) => format!("stood {timestamp}"),
+        Turned::Cleared(timestamp) => format!("cleared {timestamp}"),
+    }
+}
+
+fn value(value: i32) -> String {
+    format!("value {value}")
+}
+
+fn refused(refusal: Refusal) -> String {
+    format!("refused {}", refusal.number())
+}
+
+/// So many zeros.
+fn zeros(length: usize) -> Result<Vec<u8>, Error> {
+    let mut zeros = Vec::new();
+    let reserved = zeros.try_reserve_exact(length);
+    reserved.map_err(|_| Error::Room(length))?;
+    zeros.resize(length, 0);
+    Ok(zeros)
+}
+
+fn load(file: &str) -> Result<Tables, Error> {
+    let text = fs::read(file).map_err(|error| Error::File(file.to_string(), error))?;
+    json::read(&text).map_err(|error| Error::Contents(file.to_string(), error))
+}

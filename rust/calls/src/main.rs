@@ -1,0 +1,130 @@
+//! The program `calls`: carries out a script from a file or from standard input.
+
+#![forbid(unsafe_code)]
+
+use calls::Stop;
+use std::env;
+use std::ffi::OsString;
+use std::fs::File;
+use std::io::{self, BufReader, Write};
+use std::process::ExitCode;
+
+/// The capacity, unless `--n` gives another.
+const CAPACITY: usize = 128;
+
+const USAGE: &str = "usage: calls [--n N] [FILE]";
+
+const HELP: &str = "
+Carries out calls, one to a line, on the proved change history of a cabinet, and
+prints one answer line each. The lines come from FILE or from standard input.
+
+  --n N    the capacity of the tables (128)
+  --help   prints this text
+
+line                        answer, where it is not `refused R`
+set_up                      done
+take_in TS HEX              done, held
+withdraw TS                 done
+turn                        idle, ran TS, stood TS, cleared TS
+drain                       totals RAN STOOD CLEARED
+current S                   value V
+value_as_of TS S            value V
+standing TS                 standing STATUS FLAG
+take_in_package HEX [lenL]  done answers [a, b, ..], for the entries
+plain_run                   done [v, v, ..], for the 1,024 settings
+tables                      the tables, one line of JSON
+load FILE                   done; FILE has tables as `tables` prints them
+
+TS is a timestamp, S a setting, HEX bytes as pairs of hexadecimal digits, or - for
+none. With lenL an answer slice of L zeros is lent instead of 512. Empty lines and
+lines that start with # are passed over.
+
+A line that cannot be read ends the run with a message and exit status 1, wrong
+arguments with status 2.
+";
+
+/// What the arguments ask for.
+enum Command {
+    Help,
+    Run { n: usize, file: Option<OsString> },
+}
+
+fn main() -> ExitCode {
+    match command(env::args_os().skip(1)) {
+        Ok(Command::Help) => {
+            let mut output = io::stdout();
+            let printed = write!(output, "{USAGE}\n{HELP}").and_then(|()| output.flush());
+            end(printed.map_err(Stop::Output), "")
+        }
+        Ok(Command::Run { n, file: None }) => {
+            end(calls::run(n, io::stdin().lock(), io::stdout().lock()), "")
+        }
+        Ok(Command::Run {
+            n,
+            file: Some(file),
+        }) => {
+            let name = file.display();
+            match File::open(&file) {
+                Ok(input) => {
+                    let ended = calls::run(n, BufReader::new(input), io::stdout().lock());
+                    end(ended, &format!("{name}: "))
+                }
+                Err(error) => {
+                    say(&format!("{name}: {error}"));
+                    ExitCode::from(2)
+                }
+            }
+        }
+        Err(mistake) => {
+            say(&format!("{mistake}\n{USAGE}"));
+            ExitCode::from(2)
+        }
+    }
+}
+
+/// What the arguments ask for, or what is wrong with them.
+fn command(mut arguments: impl Iterator<Item = OsString>) -> Result<Command, String> {
+    let (mut n, mut file) = (None, None);
+    while let Some(argument) = arguments.next() {
+        if argument == "--help" {
+            return Ok(Command::Help);
+        } else if argument == "--n" {
+            let number = arguments.next().ok_or("--n needs a number")?;
+            let capacity = capacity(&number);
+            let capacity = capacity.ok_or(format!("--n {}: not a capacity", number.display()))?;
+            if n.replace(capacity).is_some() {
+                return Err("--n is given twice".to_string());
+            }
+        } else if argument.as_encoded_bytes().starts_with(b"-") {
+            return Err(format!("there is no option {}", argument.display()));
+        } else if let Some(first) = file.replace(argument) {
+            return Err(format!("{} is not the only file", first.display()));
+        }
+    }
+    let n = n.unwrap_or(CAPACITY);
+    Ok(Command::Run { n, file })
+}
+
+/// A number in decimal digits alone.
+fn capacity(number: &OsString) -> Option<usize> {
+    let number = number.to_str()?;
+    let digits = number.bytes().all(|byte| byte.is_ascii_digit());
+    digits.then(|| number.parse().ok())?
+}
+
+/// The exit status for the end of a run, with a message where it did not go through. `script` comes
+/// before the number of a line. Who closes the output has seen enough and gets no message.
+fn end(ended: Result<(), Stop>, script: &str) -> ExitCode {
+    match ended {
+        Ok(()) => return ExitCode::SUCCESS,
+        Err(stop @ Stop::Line { .. }) => say(&format!("{script}{stop}")),
+        Err(Stop::Output(error)) if error.kind() == io::ErrorKind::BrokenPipe => {}
+        Err(stop @ Stop::Output(_)) => say(&stop.to_string()),
+    }
+    ExitCode::FAILURE
+}
+
+/// Writes to standard error. Where that fails there is nobody to tell.
+fn say(message: &str) {
+    let _ = writeln!(io::stderr(), "{message}");
+}

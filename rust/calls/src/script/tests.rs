@@ -1,0 +1,306 @@
+use super::{read, Call, Error};
+
+#[track_caller]
+fn assert_read(line: &str, call: Call) {
+    assert_eq!(read(line.as_bytes()), Ok(Some(call)), "{line:?}");
+}
+
+/// The message for a line that cannot be read.
+#[track_caller]
+fn message(line: &str) -> String {
+    let error = read(line.as_bytes()).expect_err("it cannot be read");
+    error.to_string()
+}
+
+#[test]
+fn every_kind_of_line_is_read() {
+    assert_read("set_up", Call::SetUp);
+    assert_read(
+        "take_in 20 0d000000",
+        Call::TakeIn {
+            timestamp: 20,
+            program: vec![13, 0, 0, 0],
+        },
+    );
+    assert_read("withdraw 20", Call::Withdraw { timestamp: 20 });
+    assert_read("turn", Call::Turn);
+    assert_read("drain", Call::Drain);
+    assert_read("current 34", Call::CurrentValue { setting: 34 });
+    assert_read(
+        "value_as_of 15 34",
+        Call::ValueAsOf {
+            timestamp: 15,
+            setting: 34,
+        },
+    );
+    assert_read("standing 20", Call::Standing { timestamp: 20 });
+    assert_read(
+        "take_in_package 0000",
+        Call::TakeInPackage {
+            package: vec![0, 0],
+            answers: None,
+        },
+    );
+    for (line, length) in [
+        ("take_in_package 0000 len0", 0),
+        ("take_in_package 0000 len511", 511),
+        ("take_in_package 0000 len512", 512),
+        ("take_in_package 0000 len18446744073709551615", usize::MAX),
+    ] {
+        assert_read(
+            line,
+            Call::TakeInPackage {
+                package: vec![0, 0],
+                answers: Some(length),
+            },
+        );
+    }
+    assert_read("plain_run", Call::PlainRun);
+    assert_read("tables", Call::Tables);
+    let file = "dir/tables.json".to_string();
+    assert_read("load dir/tables.json", Call::Load { file });
+}
+
+#[test]
+fn empty_lines_and_comments_are_passed_over() {
+    for line in [
+        "", " ", "\t \t", "\r", "  \r", "#", "# turn", "#turn", "  # turn", "\t#\r", "# é",
+    ] {
+        assert_eq!(read(line.as_bytes()), Ok(None), "{line:?}");
+    }
+}
+
+#[test]
+fn blanks_may_stand_around_words() {
+    for line in [
+        "value_as_of\t15\t34",
+        "  value_as_of 15 34",
+        "\tvalue_as_of  15 \t 34  ",
+        "value_as_of 15 34\r",
+        "value_as_of 15 34 \r",
+    ] {
+        assert_read(
+            line,
+            Call::ValueAsOf {
+                timestamp: 15,
+                setting: 34,
+            },
+        );
+    }
+}
+
+#[test]
+fn numbers_are_read_up_to_their_ends() {
+    for (digits, timestamp) in [
+        ("0", 0),
+        ("1", 1),
+        ("007", 7),
+        ("18446744073709551614", u64::MAX - 1),
+        ("18446744073709551615", u64::MAX),
+        ("00000000000000000000000018446744073709551615", u64::MAX),
+    ] {
+        assert_read(&format!("standing {digits}"), Call::Standing { timestamp });
+    }
+    for (digits, setting) in [
+        ("0", 0),
+        ("1023", 1023),
+        ("1024", 1024),
+        ("18446744073709551615", usize::MAX),
+    ] {
+        assert_read(&format!("current {digits}"), Call::CurrentValue { setting });
+    }
+}
+
+#[test]
+fn bytes_are_pairs_of_digits_of_either_case() {
+    for (word, program) in [
+        ("-", vec![]),
+        ("00", vec![0]),
+        ("7f80ff", vec![0x7F, 0x80, 0xFF]),
+        (
+            "aBcDeF0123456789",
+            vec![0xAB, 0xCD, 0xEF, 1, 0x23, 0x45, 0x67, 0x89],
+        ),
+    ] {
+        let timestamp = 1;
+        assert_read(
+            &format!("take_in 1 {word}"),
+            Call::TakeIn { timestamp, program },
+        );
+    }
+}
+
+#[test]
+fn another_name_is_no_call() {
+    for (line, word) in [
+        ("setup", "setup"),
+        ("SET_UP", "SET_UP"),
+        ("take_in_packages 0000", "take_in_packages"),
+        ("turn#", "turn#"),
+        ("turn\r\r", "turn\r"),
+        ("turn\u{a0}", "turn\u{a0}"),
+        ("\u{feff}turn", "\u{feff}turn"),
+        ("turn;drain", "turn;drain"),
+        ("turn\0", "turn\0"),
+    ] {
+        let error = Error::NoSuchCall(word.to_string());
+        assert_eq!(read(line.as_bytes()), Err(error), "{line:?}");
+    }
+    assert_eq!(message("setup 5"), r#"there is no call "setup""#);
+}
+
+#[test]
+fn every_argument_may_be_missing() {
+    for (line, argument) in [
+        ("take_in", "TS"),
+        ("take_in 20", "HEX"),
+        ("take_in 20 \r", "HEX"),
+        ("withdraw", "TS"),
+        ("current", "S"),
+        ("value_as_of", "TS"),
+        ("value_as_of 15", "S"),
+        ("standing", "TS"),
+        ("take_in_package", "HEX"),
+        ("load", "FILE"),
+    ] {
+        let error = Err(Error::Missing(argument));
+        assert_eq!(read(line.as_bytes()), error, "{line:?}");
+    }
+    assert_eq!(message("take_in 20"), "HEX is missing");
+}
+
+#[test]
+fn a_word_may_be_too_many() {
+    for line in [
+        "set_up x",
+        "take_in 20 - x",
+        "withdraw 20 x",
+        "turn x",
+        "drain x",
+        "current 34 x",
+        "value_as_of 15 34 x",
+        "standing 20 x",
+        "take_in_package 0000 len5 x",
+        "plain_run x",
+        "tables x",
+        "load tables.json x",
+        "turn x y",
+    ] {
+        let error = Err(Error::TooMany("x".to_string()));
+        assert_eq!(read(line.as_bytes()), error, "{line:?}");
+    }
+    assert_eq!(message("turn # why"), r##""#" is a word too many"##);
+}
+
+#[test]
+fn numbers_have_decimal_digits_alone() {
+    for word in [
+        "-1", "+1", "1.0", "1e3", "0x10", "1_000", "1,000", "ten", "-", "١",
+    ] {
+        let error = |argument| Err(Error::NotANumber(argument, word.to_string()));
+        for line in [
+            format!("take_in {word} -"),
+            format!("withdraw {word}"),
+            format!("value_as_of {word} 34"),
+            format!("standing {word}"),
+        ] {
+            assert_eq!(read(line.as_bytes()), error("TS"), "{line:?}");
+        }
+        for line in [format!("current {word}"), format!("value_as_of 15 {word}")] {
+            assert_eq!(read(line.as_bytes()), error("S"), "{line:?}");
+        }
+    }
+    assert_eq!(
+        message("withdraw -1"),
+        r#"TS is not a number in decimal digits: "-1""#
+    );
+}
+
+#[test]
+fn numbers_may_be_too_large() {
+    let word = "18446744073709551616";
+    let error = |argument| Err(Error::TooLarge(argument, word.to_string()));
+    for line in [
+        format!("take_in {word} -"),
+        format!("withdraw {word}"),
+        format!("value_as_of {word} 34"),
+        format!("standing {word}"),
+    ] {
+        assert_eq!(read(line.as_bytes()), error("TS"), "{line:?}");
+    }
+    for line in [format!("current {word}"), format!("value_as_of 15 {word}")] {
+        assert_eq!(read(line.as_bytes()), error("S"), "{line:?}");
+    }
+    let line = format!("take_in_package 0000 len{word}");
+    assert_eq!(read(line.as_bytes()), error("the L of lenL"));
+    assert_eq!(
+        message(&format!("current {word}")),
+        r#"S is too large: "18446744073709551616""#
+    );
+}
+
+#[test]
+fn bytes_are_whole_and_hexadecimal() {
+    for call in ["take_in 20", "take_in_package"] {
+        for word in ["0", "000", "0d0"] {
+            let line = format!("{call} {word}");
+            assert_eq!(read(line.as_bytes()), Err(Error::OddDigits), "{line:?}");
+        }
+        for (word, character) in [
+            ("0g", 'g'),
+            ("0x0d", 'x'),
+            ("--", '-'),
+            ("-00", '-'),
+            ("00-", '-'),
+            ("+0", '+'),
+            ("0é", 'é'),
+            ("\"00\"", '"'),
+        ] {
+            let line = format!("{call} {word}");
+            let error = Err(Error::NotADigit(character));
+            assert_eq!(read(line.as_bytes()), error, "{line:?}");
+        }
+    }
+    assert_eq!(message("take_in 1 0"), "HEX has an odd number of digits");
+    assert_eq!(
+        message("take_in 1 0g"),
+        "HEX has 'g', which is no hexadecimal digit"
+    );
+}
+
+#[test]
+fn a_length_is_len_and_a_number() {
+    for word in ["512", "LEN512", "lem5", "le", "-"] {
+        let line = format!("take_in_package 0000 {word}");
+        let error = Error::NotALength(word.to_string());
+        assert_eq!(read(line.as_bytes()), Err(error), "{line:?}");
+    }
+    for length in ["", "-1", "+5", "5x", "gth"] {
+        let line = format!("take_in_package 0000 len{length}");
+        let error = Error::NotANumber("the L of lenL", length.to_string());
+        assert_eq!(read(line.as_bytes()), Err(error), "{line:?}");
+    }
+    // The length is a word of its own.
+    let error = Err(Error::NotANumber("the L of lenL", String::new()));
+    assert_eq!(read(b"take_in_package 0000 len 5"), error);
+    assert_eq!(
+        message("take_in_package 0000 512"),
+        r#"lenL is not len and a length: "512""#
+    );
+}
+
+#[test]
+fn a_line_is_utf_8() {
+    for line in [&b"turn \xFF"[..], b"\xE9", b"# \xFF"] {
+        assert_eq!(read(line), Err(Error::NotText), "{line:?}");
+    }
+    assert_eq!(Error::NotText.to_string(), "this is not UTF-8");
+}
+
+#[test]
+fn messages_show_the_beginning_of_a_long_word() {
+    let long = "é".repeat(100_000);
+    let shown = "é".repeat(40);
+    assert_eq!(message(&shown), format!(r#"there is no call "{shown}""#));
+    assert_eq!(message(&long), format!(r#"there is no call "{shown}".."#));
+}

@@ -1,0 +1,218 @@
+//! Every form of answer, and every refusal.
+
+use crate::programs::{copy, package, set, take_in};
+use crate::{assert_answers, printed, write_file};
+
+/// A list with these values at these places, and else 0.
+fn list(length: usize, values: &[(usize, i32)]) -> String {
+    let mut list = vec!["0".to_string(); length];
+    for (place, value) in values {
+        list[*place] = value.to_string();
+    }
+    format!("[{}]", list.join(", "))
+}
+
+#[test]
+fn every_form_of_answer() {
+    let of_three = package(&[(10, 0, &set(34, 7)), (10, 1, ""), (77, 1, "")]);
+    assert_answers(
+        &[],
+        &[
+            ("set_up", "done"),
+            ("take_in 5 -", "done"),
+            ("take_in 5 -", "held"),
+            ("standing 5", "standing 0 0"),
+            ("turn", "ran 5"),
+            ("turn", "idle"),
+            (&take_in(30, copy(34, 50)), "done"),
+            ("drain", "totals 1 0 0"),
+            (&take_in(10, set(34, 7)), "done"),
+            ("turn", "ran 10"),
+            ("standing 30", "standing 2 0"),
+            (&take_in(20, set(34, 0)), "done"),
+            ("turn", "ran 20"),
+            ("turn", "stood 30"),
+            ("standing 30", "standing 1 0"),
+            ("value_as_of 20 34", "value 7"),
+            ("value_as_of 21 34", "value 0"),
+            ("withdraw 10", "done"),
+            ("standing 10", "standing 2 1"),
+            ("turn", "cleared 10"),
+            ("standing 10", "standing 1 1"),
+            (&take_in(40, set(60, -2147483648)), "done"),
+            ("withdraw 40", "done"),
+            ("standing 40", "standing 0 1"),
+            ("withdraw 20", "done"),
+            (&take_in(50, set(61, -2147483648)), "done"),
+            ("drain", "totals 1 0 2"),
+            ("current 61", "value -2147483648"),
+            (
+                "plain_run",
+                &format!("done {}", list(1024, &[(61, i32::MIN)])),
+            ),
+            (
+                &format!("take_in_package {of_three}"),
+                "done answers [255, 11, 10]",
+            ),
+            ("take_in_package 0000", "done answers []"),
+            ("withdraw 77", "refused 10"),
+        ],
+    );
+}
+
+/// The totals of one drain are three numbers other than 0.
+#[test]
+fn totals_in_order() {
+    let calls = [
+        (take_in(30, copy(34, 50)), "done"),
+        (take_in(40, copy(34, 51)), "done"),
+        (take_in(50, set(52, 1)), "done"),
+        ("drain".to_string(), "totals 3 0 0"),
+        // 10 marks 30 and 40, and 20 lets them stand.
+        (take_in(10, set(34, 7)), "done"),
+        ("turn".to_string(), "ran 10"),
+        (take_in(20, set(34, 0)), "done"),
+        ("withdraw 50".to_string(), "done"),
+        ("drain".to_string(), "totals 1 2 1"),
+    ];
+    assert_answers(&[], &calls);
+}
+
+#[test]
+fn tables_after_a_change() {
+    let script = ["set_up", &take_in(10, copy(34, 50)), "drain"].join("\n");
+    let lines = printed(&["--n", "2"], &format!("{script}\ntables\n"));
+    let program = [11, 0, 0, 0, 34, 0, 0, 0, 13, 0, 0, 0, 50];
+    let program: Vec<(usize, i32)> = program.into_iter().enumerate().collect();
+    let expected = [
+        ("held", list(1, &[(0, 1)])),
+        ("timestamps", list(2, &[(0, 10)])),
+        ("order", list(2, &[])),
+        ("status", list(2, &[(0, 1)])),
+        ("withdrawn", list(2, &[])),
+        ("length", list(2, &[(0, 2)])),
+        ("programs", list(512, &program)),
+        ("read_count", list(2, &[(0, 1)])),
+        ("write_count", list(2, &[(0, 1)])),
+        ("read_settings", list(64, &[(0, 34)])),
+        ("seen_values", list(64, &[])),
+        ("write_settings", list(64, &[(0, 50)])),
+        ("written_values", list(64, &[])),
+        ("view", list(1024, &[])),
+    ];
+    let expected = expected.map(|(key, list)| format!("\"{key}\": {list}"));
+    let expected = format!("done\ndone\ntotals 1 0 0\n{{{}}}\n", expected.join(", "));
+    assert_eq!(lines, expected);
+}
+
+/// Before it is set up the runner has tables of the right lengths with 0 in every slot.
+#[test]
+fn tables_need_not_be_set_up() {
+    assert_eq!(
+        printed(&["--n", "3"], "tables\n"),
+        printed(&["--n", "3"], "set_up\ntables\n").replace("done\n", "")
+    );
+    assert_answers(
+        &[],
+        &[
+            (take_in(10, set(34, 7)), "done"),
+            ("drain".to_string(), "totals 1 0 0"),
+            ("current 34".to_string(), "value 7"),
+            ("set_up".to_string(), "done"),
+            ("current 34".to_string(), "value 0"),
+            ("standing 10".to_string(), "refused 10"),
+        ],
+    );
+}
+
+/// Refusals 1 and 2 of every call are in `loading`.
+#[test]
+fn every_refusal() {
+    let wrong = "1200000000000000";
+    assert_answers(
+        &["--n", "2"],
+        &[
+            ("take_in_package 0000 len511", "refused 1"),
+            ("take_in_package -", "refused 3"),
+            ("take_in_package 00", "refused 3"),
+            ("take_in_package 000000", "refused 3"),
+            ("take_in_package 0100", "refused 3"),
+            ("take_in 0 -", "refused 4"),
+            ("take_in 18446744073709551615 -", "refused 4"),
+            ("withdraw 0", "refused 4"),
+            ("value_as_of 0 34", "refused 4"),
+            ("value_as_of 18446744073709551615 34", "value 0"),
+            ("standing 18446744073709551615", "refused 4"),
+            ("current 1024", "refused 5"),
+            ("current 65536", "refused 5"),
+            ("current 4294967296", "refused 5"),
+            ("current 18446744073709551615", "refused 5"),
+            ("value_as_of 5 1024", "refused 5"),
+            ("take_in 5 00", "refused 6"),
+            (&take_in(5, "00".repeat(264)), "refused 6"),
+            (&take_in(5, wrong), "refused 7"),
+            ("take_in 5 -", "done"),
+            (&take_in(5, set(34, 7)), "refused 8"),
+            ("take_in 6 -", "done"),
+            ("take_in 7 -", "refused 9"),
+            ("take_in 6 -", "held"),
+            ("withdraw 7", "refused 10"),
+            ("standing 7", "refused 10"),
+            ("withdraw 6", "done"),
+            ("withdraw 6", "refused 11"),
+            (
+                &format!("take_in_package {}", package(&[(8, 0, wrong), (8, 0, "")])),
+                "done answers [7, 9]",
+            ),
+        ],
+    );
+    write_file(
+        "held_2.json",
+        printed(&["--n", "2"], "tables\n").replacen("[0]", "[2]", 1),
+    );
+    assert_answers(
+        &["--n", "2"],
+        &[("load held_2.json", "done"), ("turn", "refused 2")],
+    );
+}
+
+/// The lent answer slice must have 512 bytes, whatever the package is.
+#[test]
+fn length_of_the_answer_slice() {
+    let package = package(&[(10, 0, &set(34, 7)), (20, 1, "")]);
+    let line = |length: &str| format!("take_in_package {package} {length}");
+    assert_answers(
+        &[],
+        &[
+            (line("len0"), "refused 1"),
+            (line("len2"), "refused 1"),
+            (line("len511"), "refused 1"),
+            (line("len513"), "refused 1"),
+            (line("len66048"), "refused 1"),
+            ("take_in_package - len0".to_string(), "refused 1"),
+            ("standing 10".to_string(), "refused 10"),
+            (line("len512"), "done answers [0, 10]"),
+            ("standing 10".to_string(), "standing 0 0"),
+            (line("len511"), "refused 1"),
+            (line("len0512"), "done answers [255, 10]"),
+            (line(""), "done answers [255, 10]"),
+        ],
+    );
+}
+
+/// A package of 512 entries has 512 answers.
+#[test]
+fn the_most_entries() {
+    let entries: Vec<(u64, u8, &str)> = (1..=512).map(|timestamp| (timestamp, 0, "")).collect();
+    let line = format!("take_in_package {}", package(&entries));
+    let answers = [vec!["0"; 512], vec!["255"; 512]];
+    let [first, second] = answers.map(|answers| format!("done answers [{}]", answers.join(", ")));
+    assert_answers(
+        &["--n", "512"],
+        &[
+            (&line, &first),
+            (&line, &second),
+            (&"drain".to_string(), "totals 512 0 0"),
+        ],
+    );
+}

@@ -1,0 +1,239 @@
+//! The cases of document 01, "Cases to know", and the example script.
+
+use crate::programs::{add, constant, copy, instruction, package, set, take, take_in, write};
+use crate::{assert_answers, printed};
+
+/// Carries out a case on tables just set up.
+#[track_caller]
+fn assert_case(calls: &[(&str, &str)]) {
+    let set_up = [("set_up", "done")];
+    assert_answers(&[], &[&set_up, calls].concat());
+}
+
+#[test]
+fn p1() {
+    assert_case(&[("turn", "idle"), ("drain", "totals 0 0 0")]);
+}
+
+#[test]
+fn p2() {
+    assert_case(&[
+        (&take_in(20, set(34, 5)), "done"),
+        ("drain", "totals 1 0 0"),
+        (&take_in(10, set(34, 7)), "done"),
+        ("turn", "ran 10"),
+        ("turn", "idle"),
+        ("current 34", "value 5"),
+        ("value_as_of 15 34", "value 7"),
+    ]);
+}
+
+#[test]
+fn p3() {
+    assert_case(&[
+        (&take_in(20, copy(34, 50)), "done"),
+        ("drain", "totals 1 0 0"),
+        (&take_in(10, set(34, 7)), "done"),
+        ("turn", "ran 10"),
+        ("turn", "ran 20"),
+        ("turn", "idle"),
+        ("current 50", "value 7"),
+    ]);
+}
+
+#[test]
+fn p4() {
+    assert_case(&[
+        (&take_in(20, copy(34, 50)), "done"),
+        ("drain", "totals 1 0 0"),
+        (&take_in(10, set(34, 0)), "done"),
+        ("turn", "ran 10"),
+        ("turn", "idle"),
+        ("current 50", "value 0"),
+    ]);
+}
+
+#[test]
+fn p5() {
+    assert_case(&[
+        (&take_in(20, set(34, 5)), "done"),
+        (&take_in(30, copy(34, 50)), "done"),
+        ("drain", "totals 2 0 0"),
+        (&take_in(10, set(34, 7)), "done"),
+        ("turn", "ran 10"),
+        ("turn", "idle"),
+        ("current 34", "value 5"),
+        ("current 50", "value 5"),
+    ]);
+}
+
+#[test]
+fn p6() {
+    assert_case(&[
+        (&take_in(20, add(34, 1)), "done"),
+        ("drain", "totals 1 0 0"),
+        ("current 34", "value 1"),
+        (&take_in(10, set(34, 7)), "done"),
+        ("turn", "ran 10"),
+        ("turn", "ran 20"),
+        ("turn", "idle"),
+        ("current 34", "value 8"),
+    ]);
+}
+
+#[test]
+fn p7() {
+    assert_case(&[
+        (&take_in(30, copy(34, 50)), "done"),
+        ("drain", "totals 1 0 0"),
+        (&take_in(10, set(34, 7)), "done"),
+        ("turn", "ran 10"),
+        (&take_in(20, set(34, 0)), "done"),
+        ("turn", "ran 20"),
+        ("turn", "stood 30"),
+        ("turn", "idle"),
+        ("current 50", "value 0"),
+    ]);
+}
+
+#[test]
+fn p8() {
+    let program = set(34, 7) + &set(40, 3);
+    assert_case(&[
+        (&take_in(10, program), "done"),
+        ("drain", "totals 1 0 0"),
+        ("current 34", "value 7"),
+        ("current 40", "value 3"),
+        ("withdraw 10", "done"),
+        ("turn", "cleared 10"),
+        ("turn", "idle"),
+        ("current 34", "value 0"),
+        ("current 40", "value 0"),
+    ]);
+}
+
+#[test]
+fn p9() {
+    let program = set(34, 7) + &set(34, 8);
+    assert_case(&[
+        (&take_in(10, program), "done"),
+        ("turn", "ran 10"),
+        ("turn", "idle"),
+        ("current 34", "value 0"),
+        ("value_as_of 11 34", "value 0"),
+    ]);
+}
+
+#[test]
+fn p10() {
+    let program = [
+        constant(0, i32::MIN),
+        instruction(5, 1, 0, 0, 0),
+        write(1, 40),
+        constant(0, i32::MAX),
+        constant(1, 1),
+        instruction(3, 2, 0, 1, 0),
+        write(2, 41),
+        constant(0, -5),
+        instruction(6, 1, 0, 0, 1),
+        write(1, 42),
+        constant(0, -1),
+        instruction(7, 1, 0, 0, 0),
+        write(1, 43),
+    ];
+    assert_case(&[
+        (&take_in(10, program.concat()), "done"),
+        ("drain", "totals 1 0 0"),
+        ("current 40", "value -2147483648"),
+        ("current 41", "value -2147483648"),
+        ("current 42", "value -3"),
+        ("current 43", "value 32"),
+    ]);
+}
+
+#[test]
+fn p11() {
+    assert_case(&[
+        (&take_in(10, set(36, 400)), "done"),
+        (&take_in(30, take(36, 300, 37)), "done"),
+        ("drain", "totals 2 0 0"),
+        ("current 36", "value 100"),
+        ("current 37", "value 0"),
+        (&take_in(20, take(36, 200, 37)), "done"),
+        ("turn", "ran 20"),
+        ("turn", "ran 30"),
+        ("turn", "idle"),
+        ("current 36", "value -100"),
+        ("current 37", "value 1"),
+    ]);
+}
+
+/// "Accepted: timestamps 1 and 2^64 − 2, 256 bytes, setting 1,023, N = 4,096. Refused: 0, 264 bytes,
+/// 7 bytes, 1,024, 4,097."
+#[test]
+fn accepted_and_refused() {
+    let stops = |bytes| "00".repeat(bytes);
+    assert_case(&[
+        (&take_in(1, "-"), "done"),
+        (&take_in(u64::MAX - 1, "-"), "done"),
+        (&take_in(2, stops(256)), "done"),
+        (&take_in(3, set(1023, 9)), "done"),
+        ("drain", "totals 4 0 0"),
+        ("current 1023", "value 9"),
+        ("value_as_of 18446744073709551615 1023", "value 9"),
+        (&take_in(0, "-"), "refused 4"),
+        (&take_in(u64::MAX, "-"), "refused 4"),
+        (&take_in(4, stops(264)), "refused 6"),
+        (&take_in(4, stops(7)), "refused 6"),
+        (&take_in(4, set(1024, 9)), "refused 7"),
+        ("current 1024", "refused 5"),
+    ]);
+    assert_answers(&["--n", "4096"], &[("set_up", "done"), ("turn", "idle")]);
+    let above = [("set_up", "refused 1"), ("turn", "refused 1")];
+    assert_answers(&["--n", "4097"], &above);
+}
+
+/// The package of 70 bytes.
+#[test]
+fn package_of_the_cabinet_program() {
+    let package = package(&[(20, 0, &copy(34, 50)), (10, 0, &set(34, 7)), (15, 1, "")]);
+    assert_eq!(package.len(), 2 * 70);
+    assert_case(&[
+        (
+            &format!("take_in_package {package}"),
+            "done answers [0, 0, 10]",
+        ),
+        ("turn", "ran 10"),
+        ("turn", "ran 20"),
+        ("turn", "idle"),
+        ("current 34", "value 7"),
+        ("current 50", "value 7"),
+    ]);
+}
+
+#[test]
+fn example_of_power() {
+    let example = concat!(env!("CARGO_MANIFEST_DIR"), "/../../examples/power.calls");
+    let expected = "\
+done
+done
+done
+totals 2 0 0
+value 100
+value 0
+done
+ran 20
+standing 2 0
+ran 30
+idle
+value -100
+value 1
+value 200
+done
+totals 1 0 1
+value 100
+value 0
+standing 1 1
+";
+    assert_eq!(printed(&[example], ""), expected);
+}
