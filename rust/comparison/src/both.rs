@@ -1,13 +1,34 @@
 //! The calls, made on the proved library and on the outside implementation, and compared.
 
 use crate::proved::calls as proved;
-use outside::calls::{self, Refusal};
+use outside::calls::{self, Refusal, Standing};
 use outside::checker::{self, Totals, Turn};
 use outside::intake::{self, Taken};
 use outside::package;
 use outside::program::SETTINGS;
 use outside::tables::Tables;
-use std::fmt::Debug;
+use std::fmt::{self, Debug};
+
+/// A call that only reads the tables, with its arguments besides N and the tables.
+#[derive(Clone, Copy, Debug)]
+#[allow(missing_docs)]
+pub enum Query {
+    CurrentValue(usize),
+    ValueAsOf(u64, usize),
+    Standing(u64),
+    /// With a lent slice of this length.
+    PlainRun(usize),
+}
+
+/// What a query answers.
+#[derive(Clone, Debug, PartialEq, Eq)]
+#[allow(missing_docs)]
+pub enum Answer {
+    Value(i32),
+    Standing(Standing),
+    /// What the plain run leaves in the lent slice.
+    Settings(Vec<i32>),
+}
 
 /// Tables for each of the two, which every call must leave alike. The error of a call is the
 /// refusal, which must alter no lent slice.
@@ -106,33 +127,54 @@ impl Both {
         self.call(&"a drain", proved::drain, checker::drain)
     }
 
+    /// Makes a call that only reads.
+    #[track_caller]
+    pub fn ask(&self, query: Query) -> Result<Answer, u8> {
+        let (n, proved, outside) = (self.n, &self.proved, &self.outside);
+        let (by_proved, by_outside) = match query {
+            Query::CurrentValue(setting) => (
+                proved::current_value(n, proved, setting).map(Answer::Value),
+                calls::current_value(n, outside, setting).map(Answer::Value),
+            ),
+            Query::ValueAsOf(timestamp, setting) => (
+                proved::value_as_of(n, proved, timestamp, setting).map(Answer::Value),
+                calls::value_as_of(n, outside, timestamp, setting).map(Answer::Value),
+            ),
+            Query::Standing(timestamp) => (
+                proved::standing(n, proved, timestamp).map(Answer::Standing),
+                calls::standing(n, outside, timestamp).map(Answer::Standing),
+            ),
+            Query::PlainRun(length) => {
+                let given = vec![0x5A5A_5A5A; length];
+                let (mut left, mut left_outside) = (given.clone(), given.clone());
+                let by_proved = proved::plain_run(n, proved, &mut left);
+                let by_outside = calls::plain_run(n, outside, &mut left_outside);
+                assert!(
+                    by_proved.is_ok() || left == given,
+                    "{by_proved:?} of {query:?} alters the slice: {self:?}"
+                );
+                (
+                    by_proved.map(|()| Answer::Settings(left)),
+                    by_outside.map(|()| Answer::Settings(left_outside)),
+                )
+            }
+        };
+        assert_same(&query, &by_proved, by_outside);
+        self.assert_alike(&query);
+        by_proved
+    }
+
     /// Makes every call that only reads, with this timestamp and this setting.
     #[track_caller]
-    pub fn query(&self, timestamp: u64, setting: usize) {
-        let (n, proved, outside) = (self.n, &self.proved, &self.outside);
-        assert_same(
-            &format_args!("the current value of {setting}"),
-            proved::current_value(n, proved, setting),
-            calls::current_value(n, outside, setting),
-        );
-        assert_same(
-            &format_args!("the value of {setting} as of {timestamp}"),
-            proved::value_as_of(n, proved, timestamp, setting),
-            calls::value_as_of(n, outside, timestamp, setting),
-        );
-        assert_same(
-            &format_args!("the standing of {timestamp}"),
-            proved::standing(n, proved, timestamp),
-            calls::standing(n, outside, timestamp),
-        );
-        let (mut by_proved, mut by_outside) = ([-1; SETTINGS], [-1; SETTINGS]);
-        assert_same(
-            &"a plain run",
-            proved::plain_run(n, proved, &mut by_proved),
-            calls::plain_run(n, outside, &mut by_outside),
-        );
-        assert!(by_proved == by_outside, "what a plain run leaves");
-        self.assert_alike(&"a call that only reads");
+    pub fn ask_all(&self, timestamp: u64, setting: usize) {
+        for query in [
+            Query::CurrentValue(setting),
+            Query::ValueAsOf(timestamp, setting),
+            Query::Standing(timestamp),
+            Query::PlainRun(SETTINGS),
+        ] {
+            let _ = self.ask(query);
+        }
     }
 
     #[track_caller]
@@ -144,7 +186,7 @@ impl Both {
     ) -> Result<A, u8> {
         let before = self.outside.clone();
         let answer = proved(self.n, &mut self.proved);
-        assert_same(call, answer, outside(self.n, &mut self.outside));
+        assert_same(call, &answer, outside(self.n, &mut self.outside));
         self.assert_alike(call);
         assert!(
             answer.is_ok() || self.outside == before,
@@ -158,21 +200,37 @@ impl Both {
         let unlike = proved::unlike(&self.proved, &self.outside);
         assert!(
             unlike.is_empty(),
-            "{call:?} leaves unlike {unlike:?} of capacity {}",
-            self.n
+            "{call:?} leaves unlike {unlike:?} of {self:?}"
         );
+    }
+}
+
+/// The tables without programs, lists and view.
+impl Debug for Both {
+    fn fmt(&self, f: &mut fmt::Formatter<'_>) -> fmt::Result {
+        f.debug_struct("Both")
+            .field("n", &self.n)
+            .field("held", &self.outside.held)
+            .field("timestamps", &self.outside.timestamps)
+            .field("order", &self.outside.order)
+            .field("status", &self.outside.status)
+            .field("withdrawn", &self.outside.withdrawn)
+            .field("lengths", &self.outside.lengths)
+            .field("reads", &self.outside.reads)
+            .field("writes", &self.outside.writes)
+            .finish_non_exhaustive()
     }
 }
 
 #[track_caller]
 fn assert_same<A: Debug + PartialEq>(
     call: &dyn Debug,
-    proved: Result<A, u8>,
+    proved: &Result<A, u8>,
     outside: Result<A, Refusal>,
 ) {
     let outside = outside.map_err(Refusal::number);
     assert!(
-        proved == outside,
+        *proved == outside,
         "proved {proved:?}, outside {outside:?} of {call:?}"
     );
 }

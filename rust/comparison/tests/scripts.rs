@@ -85,7 +85,7 @@ impl Script {
             self.make(call, reached);
             if random.below(2) == 0 {
                 let (timestamp, setting) = (source.timestamp(random), source.setting(random));
-                self.both.query(timestamp, setting);
+                self.both.ask_all(timestamp, setting);
             }
         }
         self.drain(reached);
@@ -418,7 +418,7 @@ fn full_tables_of_capacity_4096_have_the_same_answers_and_tables() {
     for &timestamp in &timestamps[..6] {
         assert_eq!(both.withdraw(timestamp), Ok(()));
         assert!(both.turn().is_ok());
-        both.query(timestamp, source.setting(random));
+        both.ask_all(timestamp, source.setting(random));
     }
     assert!(both.drain().is_ok());
     let mut plain = [0; SETTINGS];

@@ -1,13 +1,11 @@
 //! The proved calls against the outside implementation, on tables.
 
+use comparison::both::{Answer, Both, Query};
 use comparison::generate::tables::{self as random_tables, Breach, Table};
 use comparison::generate::{self, Random};
-use comparison::proved::calls as proved;
 use comparison::reached::Reached;
-use outside::calls::{self, Refusal, Standing};
 use outside::program::{self, SETTINGS};
 use outside::tables::{in_form, Status, Tables, INFINITY, LIST_ENTRIES, MAX_CAPACITY};
-use std::fmt;
 
 /// How many random tables calls are made on.
 const TABLES: usize = 8_000;
@@ -18,157 +16,46 @@ const QUERIES: usize = 8;
 /// How many tables are broken for each breach.
 const BROKEN: usize = 100;
 
-/// A call that only reads the tables, with its arguments besides N and the tables.
-#[derive(Clone, Copy, Debug)]
-enum Query {
-    CurrentValue(usize),
-    ValueAsOf(u64, usize),
-    Standing(u64),
-    /// With a lent slice of this length.
-    PlainRun(usize),
+/// Both are asked to set up copies. The error is the refusal.
+#[track_caller]
+fn set_up(both: &Both) -> Result<(), u8> {
+    both.clone().set_up()
 }
 
-#[derive(Clone, Debug, PartialEq, Eq)]
-enum Answer {
-    Value(i32),
-    Standing(Standing),
-    /// What the plain run leaves in the lent slice.
-    Settings(Vec<i32>),
-}
-
-/// Tables to make calls on, and those that the proved library is lent, which show what it alters.
-struct Lent {
-    n: usize,
-    tables: Tables,
-    proved: tolbezun::Tables,
-}
-
-impl Lent {
-    fn new(n: usize, tables: Tables) -> Self {
-        let proved = proved::lend(&tables);
-        Self { n, tables, proved }
-    }
-
-    /// What both answer. The error is the refusal.
-    #[track_caller]
-    fn ask(&self, query: Query) -> Result<Answer, u8> {
-        let (n, tables, lent) = (self.n, &self.tables, &self.proved);
-        let (proved, outside) = match query {
-            Query::CurrentValue(setting) => (
-                proved::current_value(n, lent, setting).map(Answer::Value),
-                calls::current_value(n, tables, setting).map(Answer::Value),
-            ),
-            Query::ValueAsOf(timestamp, setting) => (
-                proved::value_as_of(n, lent, timestamp, setting).map(Answer::Value),
-                calls::value_as_of(n, tables, timestamp, setting).map(Answer::Value),
-            ),
-            Query::Standing(timestamp) => (
-                proved::standing(n, lent, timestamp).map(Answer::Standing),
-                calls::standing(n, tables, timestamp).map(Answer::Standing),
-            ),
-            Query::PlainRun(length) => {
-                let given = vec![0x5A5A_5A5A; length];
-                let (mut by_proved, mut by_outside) = (given.clone(), given.clone());
-                let proved = proved::plain_run(n, lent, &mut by_proved);
-                let outside = calls::plain_run(n, tables, &mut by_outside);
-                let unaltered = proved.is_ok() || by_proved == given;
-                assert!(
-                    unaltered,
-                    "{proved:?} of {query:?} alters the slice: {self:?}"
-                );
-                (
-                    proved.map(|()| Answer::Settings(by_proved)),
-                    outside.map(|()| Answer::Settings(by_outside)),
-                )
-            }
-        };
-        let outside = outside.map_err(Refusal::number);
-        assert!(
-            proved == outside,
-            "proved {proved:?}, outside {outside:?} of {query:?} on {self:?}"
-        );
-        let altered = proved::unlike(lent, tables);
-        assert!(
-            altered.is_empty(),
-            "{query:?} alters {altered:?} of {self:?}"
-        );
-        outside
-    }
-
-    /// What both answer to set up, which is made on copies. The error is the refusal.
-    #[track_caller]
-    fn set_up(&self) -> Result<(), u8> {
-        let (mut by_proved, mut by_outside) = (self.proved.clone(), self.tables.clone());
-        let proved = proved::set_up(self.n, &mut by_proved);
-        let outside = calls::set_up(self.n, &mut by_outside).map_err(Refusal::number);
-        assert!(
-            proved == outside,
-            "proved {proved:?}, outside {outside:?} of set up on {self:?}"
-        );
-        let left = match outside {
-            Ok(()) => &by_outside,
-            Err(_) => &self.tables,
-        };
-        let unlike = proved::unlike(&by_proved, left);
-        assert!(
-            unlike.is_empty(),
-            "{proved:?} of set up, {unlike:?} of {self:?}"
-        );
-        outside
-    }
-
-    /// Makes every query, with arguments that are right and with arguments that a later refusal
-    /// turns down.
-    #[track_caller]
-    fn assert_all_refused(&self, random: &mut Random, refusal: u8) {
-        let setting = random.below(SETTINGS);
-        let timestamp = self.tables.timestamps.first().copied().unwrap_or(1);
-        for query in [
-            Query::CurrentValue(setting),
-            Query::CurrentValue(SETTINGS),
-            Query::ValueAsOf(timestamp, setting),
-            Query::ValueAsOf(random.pick(&[0, timestamp]), SETTINGS),
-            Query::Standing(timestamp),
-            Query::Standing(random.pick(&[0, INFINITY])),
-            Query::PlainRun(SETTINGS),
-        ] {
-            assert_eq!(self.ask(query), Err(refusal), "{query:?} on {self:?}");
-        }
-    }
-
-    /// The held count, or the capacity where it is above that.
-    fn held_count(&self) -> usize {
-        let held = self.tables.held.first().copied().unwrap_or(0);
-        usize::from(held).min(self.tables.timestamps.len())
+/// Makes every query, with arguments that are right and with arguments that a later refusal turns
+/// down.
+#[track_caller]
+fn assert_all_refused(random: &mut Random, both: &Both, refusal: u8) {
+    let setting = random.below(SETTINGS);
+    let timestamp = both.tables().timestamps.first().copied().unwrap_or(1);
+    for query in [
+        Query::CurrentValue(setting),
+        Query::CurrentValue(SETTINGS),
+        Query::ValueAsOf(timestamp, setting),
+        Query::ValueAsOf(random.pick(&[0, timestamp]), SETTINGS),
+        Query::Standing(timestamp),
+        Query::Standing(random.pick(&[0, INFINITY])),
+        Query::PlainRun(SETTINGS),
+    ] {
+        assert_eq!(both.ask(query), Err(refusal), "{query:?} on {both:?}");
     }
 }
 
-/// The tables without programs, lists and view.
-impl fmt::Debug for Lent {
-    fn fmt(&self, f: &mut fmt::Formatter<'_>) -> fmt::Result {
-        f.debug_struct("Lent")
-            .field("n", &self.n)
-            .field("held", &self.tables.held)
-            .field("timestamps", &self.tables.timestamps)
-            .field("order", &self.tables.order)
-            .field("status", &self.tables.status)
-            .field("withdrawn", &self.tables.withdrawn)
-            .field("lengths", &self.tables.lengths)
-            .field("reads", &self.tables.reads)
-            .field("writes", &self.tables.writes)
-            .finish_non_exhaustive()
-    }
+/// The held count, or the capacity where it is above that.
+fn held_count(tables: &Tables) -> usize {
+    let held = tables.held.first().copied().unwrap_or(0);
+    usize::from(held).min(tables.timestamps.len())
 }
 
 /// A timestamp to ask for: most often a held one or one next to it.
-fn timestamp(random: &mut Random, lent: &Lent) -> u64 {
-    let held = lent.held_count();
+fn timestamp(random: &mut Random, both: &Both) -> u64 {
+    let held = held_count(both.tables());
     match random.below(8) {
         0 => random.pick(&[0, 1, INFINITY - 1, INFINITY]),
         1 => random.bits(),
         _ if held == 0 => random.bits(),
         choice => {
-            let timestamp = lent.tables.timestamps[random.below(held)];
+            let timestamp = both.tables().timestamps[random.below(held)];
             match choice {
                 2 => timestamp.wrapping_add(1),
                 3 => timestamp.wrapping_sub(1),
@@ -180,25 +67,25 @@ fn timestamp(random: &mut Random, lent: &Lent) -> u64 {
 }
 
 /// A setting to ask for: most often one that a held change has written.
-fn setting(random: &mut Random, lent: &Lent) -> usize {
-    let held = lent.held_count();
+fn setting(random: &mut Random, both: &Both) -> usize {
+    let held = held_count(both.tables());
     match random.below(8) {
         0 => random.pick(&[0, SETTINGS - 1, SETTINGS, 65_536, 1 << 32, usize::MAX]),
         1 => random.below(SETTINGS),
         _ if held == 0 => random.below(SETTINGS),
         _ => {
             let place = random.below(held);
-            let count = usize::from(lent.tables.writes[place]).clamp(1, LIST_ENTRIES);
-            lent.tables.targets[LIST_ENTRIES * place + random.below(count)].into()
+            let count = usize::from(both.tables().writes[place]).clamp(1, LIST_ENTRIES);
+            both.tables().targets[LIST_ENTRIES * place + random.below(count)].into()
         }
     }
 }
 
-fn query(random: &mut Random, lent: &Lent) -> Query {
+fn query(random: &mut Random, both: &Both) -> Query {
     match random.below(8) {
-        0 => Query::CurrentValue(setting(random, lent)),
-        1..5 => Query::ValueAsOf(timestamp(random, lent), setting(random, lent)),
-        5 | 6 => Query::Standing(timestamp(random, lent)),
+        0 => Query::CurrentValue(setting(random, both)),
+        1..5 => Query::ValueAsOf(timestamp(random, both), setting(random, both)),
+        5 | 6 => Query::Standing(timestamp(random, both)),
         _ => Query::PlainRun(match random.below(8) {
             0 => random.pick(&[0, 1, SETTINGS - 1, SETTINGS + 1, 2 * SETTINGS]),
             _ => SETTINGS,
@@ -247,7 +134,7 @@ enum Event {
 
 fn count_answer(
     reached: &mut Reached<Event>,
-    lent: &Lent,
+    both: &Both,
     query: Query,
     answer: &Result<Answer, u8>,
 ) {
@@ -255,7 +142,7 @@ fn count_answer(
         (Query::CurrentValue(_), Ok(_)) => reached.count(Event::CurrentValue),
         (Query::CurrentValue(_), Err(n)) => reached.count(Event::CurrentValueRefused(*n)),
         (Query::ValueAsOf(timestamp, setting), Ok(_)) => {
-            count_value_as_of(reached, &lent.tables, timestamp, setting);
+            count_value_as_of(reached, both.tables(), timestamp, setting);
         }
         (Query::ValueAsOf(..), Err(n)) => reached.count(Event::ValueAsOfRefused(*n)),
         (Query::Standing(_), Ok(Answer::Standing(standing))) => {
@@ -263,7 +150,7 @@ fn count_answer(
         }
         (Query::Standing(_), Ok(answer)) => panic!("{answer:?} to {query:?}"),
         (Query::Standing(_), Err(n)) => reached.count(Event::StandingRefused(*n)),
-        (Query::PlainRun(_), Ok(_)) => count_plain_run(reached, &lent.tables),
+        (Query::PlainRun(_), Ok(_)) => count_plain_run(reached, both.tables()),
         (Query::PlainRun(_), Err(n)) => reached.count(Event::PlainRunRefused(*n)),
     }
 }
@@ -339,7 +226,7 @@ fn random_tables_have_the_same_answers() {
         let n = random_tables::capacity(random);
         let held = random_tables::held_count(random, n);
         let mut tables = random_tables::in_form(random, n, held);
-        assert!(in_form(n, &tables), "{:?}", Lent::new(n, tables));
+        assert!(in_form(n, &tables), "{:?}", Both::new(n, tables));
         if random.below(3) == 0 {
             random_tables::change_slot(random, &mut tables);
             reached.count(match in_form(n, &tables) {
@@ -354,13 +241,13 @@ fn random_tables_have_the_same_answers() {
             0 => random.pick(&[0, n - 1, n + 1, 65_536 + n, (1 << 32) + n, usize::MAX]),
             _ => n,
         };
-        let lent = Lent::new(n, tables);
+        let both = Both::new(n, tables);
         for _ in 0..QUERIES {
-            let query = query(random, &lent);
-            let answer = lent.ask(query);
-            count_answer(&mut reached, &lent, query, &answer);
+            let query = query(random, &both);
+            let answer = both.ask(query);
+            count_answer(&mut reached, &both, query, &answer);
         }
-        reached.count(match lent.set_up() {
+        reached.count(match set_up(&both) {
             Ok(()) => Event::SetUp,
             Err(refusal) => Event::SetUpRefused(refusal),
         });
@@ -413,13 +300,13 @@ fn random_tables_have_the_same_answers() {
 }
 
 /// Random tables with this breach.
-fn broken(random: &mut Random, breach: Breach) -> Lent {
+fn broken(random: &mut Random, breach: Breach) -> Both {
     loop {
         let n = random_tables::capacity(random);
         let held = random_tables::held_count(random, n);
         let mut tables = random_tables::in_form(random, n, held);
         if breach.make(random, &mut tables).is_some() {
-            return Lent::new(n, tables);
+            return Both::new(n, tables);
         }
     }
 }
@@ -430,9 +317,9 @@ fn every_breach_of_form_is_refused() {
     let mut reached = Reached::default();
     for breach in Breach::ALL {
         for _ in 0..BROKEN {
-            let lent = broken(random, breach);
-            lent.assert_all_refused(random, 2);
-            assert_eq!(lent.set_up(), Ok(()));
+            let both = broken(random, breach);
+            assert_all_refused(random, &both, 2);
+            assert_eq!(set_up(&both), Ok(()));
             reached.count(Event::Broken(breach));
         }
     }
@@ -453,14 +340,14 @@ fn every_breach_of_form_is_refused_at_capacity_4096() {
         for breach in Breach::ALL {
             let mut tables = tables.clone();
             if breach.make(random, &mut tables).is_some() {
-                let lent = Lent::new(MAX_CAPACITY, tables);
+                let both = Both::new(MAX_CAPACITY, tables);
                 let query = random.pick(&[
                     Query::CurrentValue(0),
                     Query::ValueAsOf(INFINITY, 0),
                     Query::Standing(1),
                     Query::PlainRun(SETTINGS),
                 ]);
-                assert_eq!(lent.ask(query), Err(2), "{breach:?}, {query:?}");
+                assert_eq!(both.ask(query), Err(2), "{breach:?}, {query:?}");
                 made += 1;
             }
         }
@@ -483,21 +370,21 @@ fn tables_of_capacity_4096_have_the_same_answers() {
             true => random_tables::in_form_with_full_lists(random, MAX_CAPACITY, held),
             false => random_tables::in_form(random, MAX_CAPACITY, held),
         };
-        let lent = Lent::new(MAX_CAPACITY, tables);
-        let last = lent.tables.timestamps[held.saturating_sub(1)].max(1);
-        let target = usize::from(lent.tables.targets[LIST_ENTRIES * (held / 2)]);
+        let both = Both::new(MAX_CAPACITY, tables);
+        let last = both.tables().timestamps[held.saturating_sub(1)].max(1);
+        let target = usize::from(both.tables().targets[LIST_ENTRIES * (held / 2)]);
         for query in [
             Query::CurrentValue(SETTINGS - 1),
             Query::ValueAsOf(INFINITY, target),
             Query::ValueAsOf(last, target),
             Query::PlainRun(SETTINGS),
         ] {
-            let answer = lent.ask(query);
+            let answer = both.ask(query);
             assert!(answer.is_ok(), "{answer:?} to {query:?}");
         }
-        let answer = lent.ask(Query::Standing(last));
+        let answer = both.ask(Query::Standing(last));
         assert_eq!(answer.is_ok(), held > 0, "{answer:?}");
-        assert_eq!(lent.set_up(), Ok(()));
+        assert_eq!(set_up(&both), Ok(()));
     }
 }
 
@@ -509,23 +396,23 @@ fn arguments_at_the_bounds_have_the_same_answers() {
     for index in 0..60 {
         let n = 1 + random.below(6);
         let tables = random_tables::in_form(random, n, index % (n + 1));
-        let lent = Lent::new(n, tables);
+        let both = Both::new(n, tables);
         let mut timestamps = vec![0, 1, 2, 1 << 32, 1 << 63, INFINITY - 1, INFINITY];
-        for &timestamp in &lent.tables.timestamps[..lent.held_count()] {
+        for &timestamp in &both.tables().timestamps[..held_count(both.tables())] {
             timestamps.extend([timestamp - 1, timestamp, timestamp + 1]);
         }
         let mut settings = vec![0, 1, SETTINGS - 1, SETTINGS, 65_535, 65_536, usize::MAX];
-        for place in 0..lent.held_count() {
-            let writes = lent.tables.write_list(place).take(2);
+        for place in 0..held_count(both.tables()) {
+            let writes = both.tables().write_list(place).take(2);
             settings.extend(writes.map(|write| usize::from(write.setting)));
         }
         for &setting in &settings {
             let refusal = (setting >= SETTINGS).then_some(5);
-            let answer = lent.ask(Query::CurrentValue(setting));
+            let answer = both.ask(Query::CurrentValue(setting));
             assert_eq!(answer.err(), refusal);
             for &timestamp in &timestamps {
                 let refusal = if timestamp == 0 { Some(4) } else { refusal };
-                let answer = lent.ask(Query::ValueAsOf(timestamp, setting));
+                let answer = both.ask(Query::ValueAsOf(timestamp, setting));
                 assert_eq!(answer.err(), refusal);
                 asked += 1;
             }
@@ -533,10 +420,10 @@ fn arguments_at_the_bounds_have_the_same_answers() {
         for &timestamp in &timestamps {
             let refusal = match timestamp {
                 0 | INFINITY => Some(4),
-                _ if lent.tables.timestamps.contains(&timestamp) => None,
+                _ if both.tables().timestamps.contains(&timestamp) => None,
                 _ => Some(10),
             };
-            assert_eq!(lent.ask(Query::Standing(timestamp)).err(), refusal);
+            assert_eq!(both.ask(Query::Standing(timestamp)).err(), refusal);
         }
     }
     println!("asked {asked} times for a value as of a timestamp");
@@ -550,13 +437,13 @@ fn every_setting_has_the_same_value() {
         random_tables::in_form(random, 5, 5),
         random_tables::in_form_with_full_lists(random, 5, 4),
     ] {
-        let lent = Lent::new(5, tables);
-        let last = lent.tables.timestamps[usize::from(lent.tables.order[3])];
+        let both = Both::new(5, tables);
+        let last = both.tables().timestamps[usize::from(both.tables().order[3])];
         for setting in 0..SETTINGS {
-            let value = Answer::Value(lent.tables.view[setting]);
-            assert_eq!(lent.ask(Query::CurrentValue(setting)), Ok(value));
+            let value = Answer::Value(both.tables().view[setting]);
+            assert_eq!(both.ask(Query::CurrentValue(setting)), Ok(value));
             for timestamp in [last, INFINITY] {
-                assert!(lent.ask(Query::ValueAsOf(timestamp, setting)).is_ok());
+                assert!(both.ask(Query::ValueAsOf(timestamp, setting)).is_ok());
             }
         }
     }
@@ -577,15 +464,15 @@ fn every_wrong_length_is_refused() {
                 for length in [0, right - 1, right + 1, 2 * right] {
                     let mut tables = tables.clone();
                     table.resize(&mut tables, length);
-                    let lent = Lent::new(n, tables);
-                    lent.assert_all_refused(random, 1);
-                    assert_eq!(lent.set_up(), Err(1), "{table:?} of {length}");
+                    let both = Both::new(n, tables);
+                    assert_all_refused(random, &both, 1);
+                    assert_eq!(set_up(&both), Err(1), "{table:?} of {length}");
                     refused += 1;
                 }
             }
             for length in [0, 1, SETTINGS - 1, SETTINGS + 1, 2 * SETTINGS] {
-                let lent = Lent::new(n, tables.clone());
-                assert_eq!(lent.ask(Query::PlainRun(length)), Err(1));
+                let both = Both::new(n, tables.clone());
+                assert_eq!(both.ask(Query::PlainRun(length)), Err(1));
             }
         }
     }
@@ -597,17 +484,18 @@ fn every_wrong_length_is_refused() {
 fn capacities_other_than_1_to_4096_are_refused() {
     let random = &mut Random::new(generate::seed());
     for n in [0, MAX_CAPACITY + 1, 65_536] {
-        let mut lent = Lent::new(n, Tables::new(n));
-        lent.assert_all_refused(random, 1);
-        assert_eq!(lent.set_up(), Err(1));
-        lent.tables.held[0] = 1;
-        lent.proved.held[0] = 1;
-        lent.assert_all_refused(random, 1);
+        for held in [0, 1] {
+            let mut tables = Tables::new(n);
+            tables.held[0] = held;
+            let both = Both::new(n, tables);
+            assert_all_refused(random, &both, 1);
+            assert_eq!(set_up(&both), Err(1));
+        }
     }
     for n in [1, MAX_CAPACITY] {
-        let mut lent = Lent::new(n, Tables::new(n));
-        assert_eq!(lent.ask(Query::CurrentValue(0)), Ok(Answer::Value(0)));
-        assert_eq!(lent.set_up(), Ok(()));
+        let both = Both::new(n, Tables::new(n));
+        assert_eq!(both.ask(Query::CurrentValue(0)), Ok(Answer::Value(0)));
+        assert_eq!(set_up(&both), Ok(()));
         // 256 × N and 32 × N may wrap to the right length.
         for other in [
             0,
@@ -618,9 +506,9 @@ fn capacities_other_than_1_to_4096_are_refused() {
             1 << 56 | n,
             1 << 59 | n,
         ] {
-            lent.n = other;
-            lent.assert_all_refused(random, 1);
-            assert_eq!(lent.set_up(), Err(1));
+            let both = Both::new(other, Tables::new(n));
+            assert_all_refused(random, &both, 1);
+            assert_eq!(set_up(&both), Err(1));
         }
     }
 }
@@ -635,9 +523,8 @@ fn set_up_leaves_the_same_tables_whatever_they_held() {
         };
         let mut tables = Tables::new(n);
         random_tables::fill(random, &mut tables);
-        let mut lent = Lent::new(n, tables);
-        assert_eq!(lent.set_up(), Ok(()));
-        assert_eq!(proved::set_up(n, &mut lent.proved), Ok(()));
-        assert!(lent.proved == tolbezun::Tables::new(n));
+        let mut both = Both::new(n, tables);
+        assert_eq!(both.set_up(), Ok(()));
+        assert!(*both.tables() == Tables::new(n));
     }
 }
