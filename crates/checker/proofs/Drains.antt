@@ -168,6 +168,7 @@ module _ (T : Tables) (g : turns.Formed T) where
 
     -- after `turn_once`
     pub drain-goes-on : {a : Turned} {U : Tables} {n' : Totals} {going' : Bool} → going ≡ true → reply a U ≡ turns.turned T → n' ≡ countedIn a n → going' ≡ goesOn a → Draining T₀ U n' going' × (turnsLeft U going' < turnsLeft T going)
+    unfolding turns.turned
     drain-goes-on {a} {U} t e c d =
         let both = subst (λ (r : Reply Turned). Draining T₀ (r .tables) (countedIn (r .answer) n) (goesOn (r .answer)) × (turnsLeft (r .tables) (goesOn (r .answer)) < turnsLeft T true)) (sym e) (after-step (roundOf (decode T)) refl) in
         rw (c, d, t) both

@@ -37,7 +37,7 @@ module _ (n : ℕ) (T : Tables) where
     formed = subst (λ (m : ℕ). (lengthsFit m T ≡ true) × (inForm m T ≡ true)) (sym capacity) g
 
     pub turn-done : {a : Turned} {U : Tables} → reply a U ≡ turns.turned T → reply a U ≡ turn n T
-    unfolding turn
+    unfolding turn turns.turned
     turn-done e = rw (g .0, g .1) (e ∙ ap (λ (m : ℕ). stepReply m T (decode T) (roundOf (decode T))) capacity)
 
     pub drain-done : {t : Totals} {U : Tables} → reply t U ≡ drained T → reply (drain-answer.Counted t) U ≡ drain n T

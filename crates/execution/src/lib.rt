@@ -1,8 +1,8 @@
 // What a turn finds out before it stores anything: the change whose turn it is, the values as of it, its run, and the settings that change.
+use bytecode::program::instruction_at;
 use fresh::start_value;
-use interpreter::program::instruction_at;
-use interpreter::record::Run;
-use interpreter::record::wanted;
+use run_record::Run;
+use run_record::wanted;
 use search::Found;
 use search::Written;
 use search::previous_write;
@@ -14,7 +14,7 @@ ghost use lib.ListN.{length, getD, drop};
 ghost use Rattle.machine.specs.Settings.{_orElse_, lookup, entries};
 ghost use Rattle.machine.specs.Form.{wellFormed};
 ghost use Rattle.machine.specs.Run.{run};
-ghost use Rattle.interpreter.specs.Record.{lists, Sized, Ran};
+ghost use Rattle.run_record.specs.Record.{lists, Sized, Ran};
 ghost use Rattle.model.specs.History.{allHold};
 ghost use Rattle.search.specs.Raw.{foundOf, Placed, Listed};
 ghost use Rattle.execution.specs.Raw.{waitingOf, valuesBelow, onSettings, oldValues, newValues, markedLive, markedValues};

@@ -1,3 +1,1 @@
-pub mod Items
 pub mod Outcomes
-pub mod Entries

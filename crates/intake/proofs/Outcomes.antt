@@ -1,5 +1,5 @@
 -- Take in and withdraw on tables: a law for each outcome.
-use mathlib.Core.Path.{_≡_, ap₂}
+use mathlib.Core.Path.{_≡_}
 use mathlib.Core.List.{List, []}
 use Prim.Native.Nat.{ℕ}
 use borrow.Author.Tests.{ne-eqb}
@@ -10,17 +10,14 @@ use Rattle.model.specs.Package.{Item}
 use Rattle.model.specs.Calls.{reply, itemCall, takeIn, withdraw}
 use Rattle.items.proofs.Stores.{withTaken, withWithdrawn}
 use Rattle.tables.proofs.Faults.{faultOf, Faultless, faulty}
-use Rattle.intake.specs.Raw.{TakenItem, WithdrawnItem}
-use Rattle.intake.proofs.Items.{ItemOutcome, take-outcome, withdraw-outcome}
+use Rattle.item_steps.specs.Raw.{TakenItem, WithdrawnItem}
+use Rattle.item_steps.proofs.Items.{item-reply, take-outcome, withdraw-outcome}
 
 module _ (n : ℕ) (T : Tables) where
   -- ---- an item
 
   item-fault : (i : Item) {r : ℕ} → r ≡ faultOf n T → (r ≡ 0 → ⊥) → reply (answer.Refused r) T ≡ itemCall n T i
   item-fault i e f = rw (faulty n T e [] f, ne-eqb _ 0 f)
-
-  pub item-reply : (i : Item) {a : Answer} {U : Tables} → Faultless n T → ItemOutcome n T i a U → reply a U ≡ itemCall n T i
-  item-reply i g o = rw (g .0, g .1) (ap₂ reply (o .answered) (o .left))
 
   -- ---- take in
 
@@ -31,7 +28,7 @@ module _ (n : ℕ) (T : Tables) where
 
     pub take-reply : {a : Answer} {held timestamps order lengths programs : List ℕ} → Faultless n T → TakenItem n t p a (T .held) (T .timestamps) (T .order) (T .lengths) (T .programs) held timestamps order lengths programs → reply a (withTaken T held timestamps order lengths programs) ≡ takeIn n T t p
     unfolding takeIn
-    take-reply g k = item-reply _ g (take-outcome n T g t p k)
+    take-reply g k = item-reply n T _ g (take-outcome n T g t p k)
 
   -- ---- withdraw
 
@@ -42,4 +39,4 @@ module _ (n : ℕ) (T : Tables) where
 
     pub withdraw-reply : {a : Answer} {status' withdrawn' : List ℕ} → Faultless n T → WithdrawnItem t a (T .held) (T .timestamps) (T .order) (T .status) (T .withdrawn) status' withdrawn' → reply a (withWithdrawn T status' withdrawn') ≡ withdraw n T t
     unfolding withdraw
-    withdraw-reply g k = item-reply _ g (withdraw-outcome n T g t k)
+    withdraw-reply g k = item-reply n T _ g (withdraw-outcome n T g t k)

@@ -20,10 +20,10 @@ use Rattle.machine.specs.Run.{registerIn, effect, State, perform, step, wanted,
 use Rattle.machine.proofs.Cases.{by-test, true-is-not-false}
 use Rattle.machine.proofs.Form.{Parts, parts-at}
 use Rattle.machine.proofs.Step.{everywhere, perform-wanted}
-use Rattle.interpreter.specs.declared.record.Run.{Run}
-use Rattle.interpreter.specs.Record.{begun, ended, distanceOf, Operands, Performable, Lists, Sized, stateOf, outcomeOf, proceed, Ready, Stepped, Ran}
-use Rattle.interpreter.proofs.Numbers.{_then_, in-range}
-use Rattle.interpreter.proofs.Registers.{effect-at, effect-skips}
+use Rattle.run_record.specs.declared.Run.{Run}
+use Rattle.run_record.specs.Record.{begun, ended, distanceOf, Operands, Performable, Lists, Sized, stateOf, outcomeOf, proceed, Ready, Stepped, Ran}
+use Rattle.bytecode.proofs.Numbers.{_then_, in-range}
+use Rattle.run_record.proofs.Registers.{effect-at, effect-skips}
 
 -- ---- what the instructions of a well-formed program allow
 

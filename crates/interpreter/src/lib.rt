@@ -1,5 +1,2 @@
-// The interpreter of a change's program.
-pub mod form;
-pub mod program;
-pub mod record;
+// The run of a program.
 pub mod run;

@@ -1,7 +1,7 @@
 // The run of a program on a list of 1,024 values, and the carrying of its writes into one.
-use crate::program::instruction_at;
-use crate::record::Run;
-use crate::record::wanted;
+use bytecode::program::instruction_at;
+use run_record::Run;
+use run_record::wanted;
 ghost use mathlib.Core.Path.{_≡_};
 ghost use mathlib.Core.Bool.{true};
 ghost use Prim.Native.Nat.{ℕ, _≤_, _<_};
@@ -9,7 +9,7 @@ ghost use lib.ListN.{length, getD};
 ghost use Rattle.machine.specs.Settings.{valueIn, entries, carry};
 ghost use Rattle.machine.specs.Form.{wellFormed};
 ghost use Rattle.machine.specs.Run.{run};
-ghost use Rattle.interpreter.specs.Record.{lists, Sized, Ran};
+ghost use Rattle.run_record.specs.Record.{lists, Sized, Ran};
 
 // The value of a setting in a list of values; 0 past its end.
 fn value_in(values: &[i32], s: usize) -> i32

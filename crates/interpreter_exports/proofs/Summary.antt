@@ -12,8 +12,8 @@ use Rattle.machine.specs.Settings.{entries}
 use Rattle.machine.specs.Form.{lengthFits, wellFormed}
 use Rattle.machine.specs.Run.{Outcome}
 use Rattle.machine.proofs.Cases.{both}
-use Rattle.interpreter.specs.declared.record.Run.{Run}
-use Rattle.interpreter.specs.Record.{ended, endingOf, Lists, Ran}
+use Rattle.run_record.specs.declared.Run.{Run}
+use Rattle.run_record.specs.Record.{ended, endingOf, Lists, Ran}
 use Rattle.interpreter_exports.specs.Numbers.{refusalOf, endingNumber, outcomeNumber, Summary}
 
 -- a program that is not refused is short and well formed

@@ -7,7 +7,7 @@ use lib.ListN.{length, getD}
 use Rattle.machine.specs.Settings.{entries}
 use Rattle.machine.specs.Form.{lengthFits, wellFormed}
 use Rattle.machine.specs.Run.{Fault, noSetting, readsWritten, writesTwice, Ending, completed, faulted, Outcome}
-use Rattle.interpreter.specs.Record.{Lists}
+use Rattle.run_record.specs.Record.{Lists}
 
 -- 6 for a wrong length, 7 for an instruction that is not well formed, else 0
 unfoldable pub refusalOf : List ℕ → ℕ

@@ -1,13 +1,13 @@
 // The interpreter for programs in other languages, as a static library.
-use interpreter::form::length_fits;
-use interpreter::form::well_formed;
-use interpreter::record::Run;
+use bytecode::form::length_fits;
+use bytecode::form::well_formed;
 use interpreter::run::run_program;
+use run_record::Run;
 ghost use mathlib.Core.Path.{_≡_};
 ghost use Prim.Native.Nat.{_+_, _*_, _≤_};
 ghost use Rattle.machine.specs.Settings.{valueIn};
 ghost use Rattle.machine.specs.Run.{run};
-ghost use Rattle.interpreter.specs.Record.{endingOf, lists, Sized};
+ghost use Rattle.run_record.specs.Record.{endingOf, lists, Sized};
 ghost use Rattle.interpreter_exports.specs.Numbers.{refusalOf, endingNumber, outcomeNumber, Summary};
 
 // 0 if a program is accepted, else its refusal, 6 or 7.

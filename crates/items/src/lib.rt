@@ -1,6 +1,6 @@
 // Taking in and withdrawing, on tables in form: the answers, and what is stored where the answer is done.
-use interpreter::form::length_fits;
-use interpreter::form::well_formed;
+use bytecode::form::length_fits;
+use bytecode::form::well_formed;
 use model::Answer;
 use search::Found;
 use search::position;

@@ -2,10 +2,10 @@
 use fresh::fill_start;
 use model::Answer;
 use tables::form::lengths_fit;
-use tables::zeros::clear_i32;
-use tables::zeros::clear_u8;
-use tables::zeros::clear_u16;
-use tables::zeros::clear_u64;
+use zeros::clear_i32;
+use zeros::clear_u8;
+use zeros::clear_u16;
+use zeros::clear_u64;
 ghost use mathlib.Core.Path.{_≡_};
 ghost use Rattle.model.specs.Tables.{tables};
 ghost use Rattle.model.specs.Calls.{reply, setUp};

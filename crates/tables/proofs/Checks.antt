@@ -1,33 +1,14 @@
--- Laws of the tests of lengths and of form: of every place below a limit, of several tests joined, and of the refusals.
+-- Laws of the tests of lengths and of form: of several tests joined, and of the refusals.
 use mathlib.Core.Path.{_≡_, refl, sym, ap, ap₂, _∙_}
 use mathlib.Core.Bool.{Bool, true, false, _&&_, and-true, and-assoc}
 use mathlib.Core.List.{List, [], _∷_}
-use Prim.Native.Nat.{ℕ, _+_, _≤_, _<_}
-use native.Mathlib.Numerals.{add-one}
-use native.Mathlib.Omega.{arith}
+use Prim.Native.Nat.{ℕ, _<_}
 use borrow.Author.Tests.{lt-leb}
 use lib.ListN.{length}
-use Rattle.machine.specs.Form.{allBelow}
 use Rattle.model.specs.Tables.{Tables, heldCount}
 use Rattle.model.specs.Form.{every, lengthTests, lengthsFit, inForm}
 use Rattle.model.specs.Refusals.{firstOf, wrongLengths, notInForm}
 use Rattle.tables.specs.Lengths.{lengthNumbersFit}
-
--- whether the places before i pass
-pub record Tested (test : ℕ → Bool) (count i : ℕ) (fits : Bool) : Type 0 where
-  pub within : i ≤ count
-  pub all : fits ≡ allBelow i test
-
-pub test-none : {test : ℕ → Bool} {count : ℕ} → Tested test count 0 true
-unfolding allBelow
-test-none = record { within = omega arith; all = refl }
-
-pub test-next : {test : ℕ → Bool} {count i : ℕ} {fits b : Bool} → i < count → b ≡ test i → Tested test count i fits → Tested test count (i + 1) (fits && b)
-unfolding allBelow
-test-next h e t = record { within = omega arith; all = rw (add-one, t .all, e) }
-
-pub test-last : {test : ℕ → Bool} {count i : ℕ} {fits : Bool} → count ≤ i → Tested test count i fits → fits ≡ allBelow count test
-test-last {test} {count} {i} h t = let e : i ≡ count = omega arith in t .all ∙ ap (λ (k : ℕ). allBelow k test) e
 
 -- ---- several tests
 

@@ -1,5 +1,2 @@
-pub mod Zeroed
 pub mod Checks
-pub mod Marks
-pub mod Parts
 pub mod Faults

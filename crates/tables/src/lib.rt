@@ -1,3 +1,2 @@
-// The lent tables: their lengths, the test of their form, and set up.
+// The lent tables: their lengths and the test of their form.
 pub mod form;
-pub mod zeros;

@@ -11,9 +11,9 @@ use Rattle.model.specs.History.{New, Valid, Invalid, Lists, empty, runLists, Ch
 use Rattle.model.specs.Tables.{statusNumber, flagNumber}
 use Rattle.model.specs.Figure.{Event, ran, stood, cleared, Step, turned}
 use Rattle.model.specs.Walk.{close, liveAtEnd, settle, retry, walk}
-use Rattle.turns.specs.declared.Act.{Act}
-use Rattle.turns.specs.declared.Act.the-variants as act
-use Rattle.turns.specs.Raw.{actOf}
+use Rattle.acts.specs.declared.Act.{Act}
+use Rattle.acts.specs.declared.Act.the-variants as act
+use Rattle.acts.specs.Raw.{actOf}
 
 -- new lists for a change
 abbrev pub settleChange : Environment → List ℤ → Change → Lists → History → Event → Step

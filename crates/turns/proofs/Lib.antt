@@ -1,4 +1,2 @@
-pub mod Parts
-pub mod Steps
 pub mod Acts
 pub mod Model

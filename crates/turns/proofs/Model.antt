@@ -1,6 +1,6 @@
 -- One turn on tables in form: what the code relies on, and a law for each outcome.
 use mathlib.Core.Path.{_≡_, refl, sym, ap, ap₂, subst, _∙_}
-use mathlib.Core.Bool.{Bool, cond}
+use mathlib.Core.Bool.{Bool, true, false, cond}
 use mathlib.Core.List.{List, [], _++_}
 use mathlib.Core.Option.{none, some}
 use Prim.Native.Nat.{ℕ, suc, _+_, _*_, _<_, _≤_}
@@ -10,9 +10,11 @@ use lib.IntN.{ℤ, pos}
 use lib.ListN.{length, getD, set, take, drop, replicate, length-replicate}
 use Rattle.machine.specs.Settings.{settingCount, Environment, valueIn, entries, Distinct, after}
 use Rattle.machine.specs.Run.{Outcome, run}
+use Rattle.machine.proofs.Cases.{impossible, true-is-not-false}
 use Rattle.machine.proofs.Lists.{run-bounded}
-use Rattle.interpreter.specs.declared.record.Run.{Run}
-use Rattle.interpreter.specs.Record as record-of
+use Rattle.run_record.specs.declared.Run.{Run}
+use Rattle.run_record.specs.Record as record-of
+use Rattle.model.specs.declared.Turned.{Turned}
 use Rattle.model.specs.declared.Turned.the-variants as turn-answer
 use Rattle.model.specs.History.{start, Valid, Lists, empty, runLists, Change, change, timestamp, program, status, withdrawn, lists, History, allSettings, allHold}
 use Rattle.model.specs.Figure.{Event, Step, turned}
@@ -35,9 +37,11 @@ use Rattle.marking.proofs.Live.{Agree}
 use Rattle.marking.proofs.Cabinet.{liveIn}
 use Rattle.marking.proofs.Replace.{settledIn, withStatus}
 use Rattle.marking.proofs.Model.{view-follows, walkable-form, live-at-end, settled-tables, restated-tables}
-use Rattle.turns.specs.declared.Act.{Act}
-use Rattle.turns.specs.declared.Act.the-variants as act
-use Rattle.turns.specs.Raw as raw
+use Rattle.acts.specs.declared.Act.{Act}
+use Rattle.acts.specs.declared.Act.the-variants as act
+use Rattle.acts.specs.Raw as acts
+use Rattle.replacement.specs.Raw as raw
+use Rattle.turns.specs.Raw as turn
 use Rattle.turns.proofs.Acts.{settleChange, stepBy, actBy, walk-acts, still-live}
 
 -- a position of the order list and its place are within the tables
@@ -49,7 +53,16 @@ pub record Slots (T : Tables) (k : ℕ) : Type 0 where
   pub timestamps : getD (T .order) k 0 < length (T .timestamps)
   pub status : getD (T .order) k 0 < length (T .status)
 
--- ---- the columns of a run
+-- what the test of an act tells
+pub is-stand : (a : Act) → turn.isStand a ≡ true → a ≡ act.Stand
+is-stand act.Clear e = impossible (cc)
+is-stand act.Stand e = refl
+is-stand act.Run e = impossible (cc)
+
+pub not-stand : (a : Act) → turn.isStand a ≡ false → a ≡ act.Stand → ⊥
+not-stand a e s = true-is-not-false (ap turn.isStand (sym s) ∙ e)
+
+-- ---- the columns of new lists
 
 abbrev pub columnsOf : Run → record-of.Lists → raw.NewLists
 columnsOf r l = raw.newLists (r .reads) (r .writes) (l .sources) (l .seen) (l .targets) (l .written)
@@ -58,7 +71,7 @@ no-entries : (settings : List ℕ) (values : List ℤ) → entries 0 settings va
 unfolding entries
 no-entries settings values = refl
 
-pub columns-sized : {r : Run} {l : record-of.Lists} (env : Environment) (p : List ℕ) → record-of.Ran r l (run env p) → length p ≤ 256 → raw.Sized (columnsOf r l)
+columns-sized : {r : Run} {l : record-of.Lists} (env : Environment) (p : List ℕ) → record-of.Ran r l (run env p) → length p ≤ 256 → raw.Sized (columnsOf r l)
 columns-sized {r} {l} env p o h =
     let distinct : Distinct (entries (r .writes) (l .targets) (l .written)) = subst Distinct (sym (ap (λ (x : Outcome). x .writes) (o .outcome))) (run-bounded env p h .1 .distinct) in
     record {
@@ -68,17 +81,23 @@ columns-sized {r} {l} env p o h =
       wrote = record { short = o .writes; target-slots = o .sized .targets; value-slots = o .sized .written; settings = new-below (r .writes) (l .targets) (l .written) (omega (arith, o .writes, o .sized .written)) distinct };
     }
 
--- no lists, in columns of zeros
-pub none-sized : raw.Sized (raw.newLists 0 0 (replicate 32 0) (replicate 32 (pos 0)) (replicate 32 0) (replicate 32 (pos 0)))
-none-sized =
-    record {
-      short = omega arith;
-      sources = refl;
-      seen = refl;
-      wrote = record { short = omega arith; target-slots = refl; value-slots = refl; settings = λ i h. absurd (omega (arith, h)) };
-    }
+-- the columns of new lists, where the change does not stand
+pub made-sized : {a : Act} {r : Run} {l : record-of.Lists} (env : Environment) (p : List ℕ) → (a ≡ act.Stand → ⊥) → acts.Made a r l (run env p) → length p ≤ 256 → raw.Sized (columnsOf r l)
+made-sized {a} {r} {l} env p moves m h = go a refl
+  where
+    go : (b : Act) → a ≡ b → raw.Sized (columnsOf r l)
+    go act.Clear e =
+        let none = m .cleared e .1 in
+        record {
+          short = omega (arith, m .cleared e .0);
+          sources = m .sized .sources;
+          seen = m .sized .seen;
+          wrote = record { short = omega arith; target-slots = m .sized .targets; value-slots = m .sized .written; settings = subst (λ (n : ℕ). (i : ℕ) → i < length (take n (l .targets)) → getD (take n (l .targets)) i 0 < settingCount) (sym none) (λ i q. absurd (omega (arith, q))) };
+        }
+    go act.Stand e = absurd (moves e)
+    go act.Run e = columns-sized env p (m .ran e) h
 
-module _ (T : Tables) (g : raw.Formed T) where
+module _ (T : Tables) (g : turn.Formed T) where
   abbrev n : ℕ
   n = length (T .order)
 
@@ -92,7 +111,8 @@ module _ (T : Tables) (g : raw.Formed T) where
   sound = decode-sound n T (g .0) (g .1)
 
   -- none waits
-  pub turn-idle : waitingIn T ≡ none → reply turn-answer.Idle T ≡ raw.turned T
+  pub turn-idle : waitingIn T ≡ none → reply turn-answer.Idle T ≡ turn.turned T
+  unfolding turn.turned
   turn-idle w = sym (ap (stepReply n T (decode T)) (round-walk start (historyIn T) (decode T .view) 0 (sound .rising) ∙ walk-none n T (g .0) (g .1) w start (decode T .view)))
 
   module _ (k : ℕ) (w : waitingIn T ≡ some k) where
@@ -113,7 +133,7 @@ module _ (T : Tables) (g : raw.Formed T) where
 
     -- ---- what the code relies on
 
-    positioned : raw.Positioned k (heldCount T) (T .order) (length (T .writes))
+    positioned : acts.Positioned k (heldCount T) (T .order) (length (T .writes))
     positioned =
         record {
           held = held;
@@ -123,7 +143,7 @@ module _ (T : Tables) (g : raw.Formed T) where
           place = omega (arith, place-held, form .small, lengths .writes);
         }
 
-    pub decidable : raw.Decidable k (heldCount T) (T .order) (T .status) (T .withdrawn) (T .reads) (T .sources) (T .seen) (T .writes) (T .targets) (T .written)
+    pub decidable : acts.Decidable k (heldCount T) (T .order) (T .status) (T .withdrawn) (T .reads) (T .sources) (T .seen) (T .writes) (T .targets) (T .written)
     decidable =
         record {
           at = positioned;
@@ -137,7 +157,7 @@ module _ (T : Tables) (g : raw.Formed T) where
           listed = listed n T (g .0) (g .1);
         }
 
-    pub runnable : raw.Runnable k (T .order) (T .lengths) (T .programs) (T .writes) (T .targets) (T .written)
+    pub runnable : acts.Runnable k (T .order) (T .lengths) (T .programs) (T .writes) (T .targets) (T .written)
     runnable =
         record {
           ordered = omega (arith, held, form .small, lengths .order);
@@ -150,7 +170,7 @@ module _ (T : Tables) (g : raw.Formed T) where
           listed = listed n T (g .0) (g .1);
         }
 
-    pub short : length (raw.programIn (T .lengths) (T .programs) place) ≤ 256
+    pub short : length (acts.programIn (T .lengths) (T .programs) place) ≤ 256
     short = rw (program-here n T (g .0) (g .1) k held) (program-size n T (g .0) (g .1) k held)
 
     pub propagable : raw.Propagable k (heldCount T) (T .order) (T .status) (T .reads) (T .sources) (T .writes) (T .targets) (T .written)
@@ -184,7 +204,7 @@ module _ (T : Tables) (g : raw.Formed T) where
 
     -- what `act_at` answers
     abbrev pub actIn : Act
-    actIn = raw.actOf (getD (T .withdrawn) place 0) (getD (T .status) place 0) (raw.seenHold (T .reads) (T .sources) (T .seen) (T .order) (T .writes) (T .targets) (T .written) k)
+    actIn = acts.actOf (getD (T .withdrawn) place 0) (getD (T .status) place 0) (acts.seenHold (T .reads) (T .sources) (T .seen) (T .order) (T .writes) (T .targets) (T .written) k)
 
     flag-here : getD (T .withdrawn) place 0 ≡ flagNumber (withdrawn here)
     flag-here =
@@ -204,7 +224,7 @@ module _ (T : Tables) (g : raw.Formed T) where
         let statuses = status-of n T (g .0) (g .1) k held in
         let reads = reads-here n T (g .0) (g .1) k held in
         let upto = values-below n T (g .0) (g .1) k (omega (arith, held)) in
-        λ j. raw.actOf (flags j) (statuses j) (allHold (reads j) (upto j))
+        λ j. acts.actOf (flags j) (statuses j) (allHold (reads j) (upto j))
 
     round-by : {a : Act} → a ≡ actIn → roundOf (decode T) ≡ passes (take k (historyIn T)) (stepBy a (uptoIn T k) (decode T .view) here later)
     round-by e =
@@ -215,13 +235,14 @@ module _ (T : Tables) (g : raw.Formed T) where
         ∙ ap (λ (a : Act). stepBy a (uptoIn T k) (decode T .view) here later) (sym (e ∙ act-is)))
 
     -- the tables after a turn
-    turn-leaves : {h : History} {view : List ℤ} {e : Event} {s : Step} → roundOf (decode T) ≡ passes (take k (historyIn T)) s → s ≡ turned h view e → {U : Tables} → U ≡ encode n (withHistory (decode T) (take k (historyIn T) ++ h) view) → reply (eventAnswer e) U ≡ raw.turned T
+    turn-leaves : {h : History} {view : List ℤ} {e : Event} {s : Step} → roundOf (decode T) ≡ passes (take k (historyIn T)) s → s ≡ turned h view e → {U : Tables} → U ≡ encode n (withHistory (decode T) (take k (historyIn T) ++ h) view) → reply (eventAnswer e) U ≡ turn.turned T
+    unfolding turn.turned
     turn-leaves {h} {view} {e} r q u =
         ap (reply (eventAnswer e)) u
         ∙ sym (ap (stepReply n T (decode T)) (r ∙ ap (passes (take k (historyIn T))) q ∙ passes-turned (take k (historyIn T)) h view e))
 
     -- it stood
-    pub turn-stood : {a : Act} {t : ℕ} {status' : List ℕ} → a ≡ actIn → a ≡ act.Stand → t ≡ getD (T .timestamps) place 0 → status' ≡ set (T .status) place 1 → reply (turn-answer.Stood t) (withStatus T status') ≡ raw.turned T
+    pub turn-stood : {a : Act} {t : ℕ} {status' : List ℕ} → a ≡ actIn → a ≡ act.Stand → t ≡ getD (T .timestamps) place 0 → status' ≡ set (T .status) place 1 → reply (turn-answer.Stood t) (withStatus T status') ≡ turn.turned T
     turn-stood {status' = status'} d e s u =
         let new = change (timestamp here) (program here) Valid (withdrawn here) (lists here) in
         ap (λ (t : ℕ). reply (turn-answer.Stood t) (withStatus T status')) (s ∙ timestamp-here)
@@ -293,7 +314,7 @@ module _ (T : Tables) (g : raw.Formed T) where
             λ j.
             tables (T .held) (T .timestamps) (T .order) (marked j) (T .withdrawn) (T .lengths) (T .programs) (reads j) (writes j) (sources j) (seen j) (targets j) (written j) (view j)
 
-        pub turn-installed : {a : Act} {e : Event} → a ≡ actIn → stepBy a (uptoIn T k) (decode T .view) here later ≡ settleChange (uptoIn T k) (decode T .view) here new later e → reply (eventAnswer e) tables' ≡ raw.turned T
+        pub turn-installed : {a : Act} {e : Event} → a ≡ actIn → stepBy a (uptoIn T k) (decode T .view) here later ≡ settleChange (uptoIn T k) (decode T .view) here new later e → reply (eventAnswer e) tables' ≡ turn.turned T
         unfolding decode
         turn-installed d q = turn-leaves (round-by d) q (tables-settled ∙ settled-tables n T (g .0) (g .1) live changes agree k held changed (record { stamped = refl; programmed = refl; flagged = refl; reads-short = omega (arith, reads-count, z .short); writes-short = omega (arith, writes-count, z .wrote .short) }) viewOf)
 
@@ -312,17 +333,27 @@ module _ (T : Tables) (g : raw.Formed T) where
 
     module _ {a : Act} {t : ℕ} (d : a ≡ actIn) (s : t ≡ getD (T .timestamps) place 0) {status' reads' writes' sources' : List ℕ} {seen' : List ℤ} {targets' : List ℕ} {written' view' : List ℤ} where
       -- it was cleared
-      pub turn-cleared : (l : raw.NewLists) → raw.Sized l → l .reads ≡ 0 → l .writes ≡ 0 → a ≡ act.Clear → Installed l status' reads' writes' sources' seen' targets' written' view' → reply (turn-answer.Cleared t) (tables (T .held) (T .timestamps) (T .order) status' (T .withdrawn) (T .lengths) (T .programs) reads' writes' sources' seen' targets' written' view') ≡ raw.turned T
+      turn-cleared : (l : raw.NewLists) → raw.Sized l → l .reads ≡ 0 → l .writes ≡ 0 → a ≡ act.Clear → Installed l status' reads' writes' sources' seen' targets' written' view' → reply (turn-answer.Cleared t) (tables (T .held) (T .timestamps) (T .order) status' (T .withdrawn) (T .lengths) (T .programs) reads' writes' sources' seen' targets' written' view') ≡ turn.turned T
       turn-cleared l z none-read none-written e i =
           ap (λ (t : ℕ). reply (turn-answer.Cleared t) (tables (T .held) (T .timestamps) (T .order) status' (T .withdrawn) (T .lengths) (T .programs) reads' writes' sources' seen' targets' written' view')) (s ∙ timestamp-here)
           ∙ turn-installed l z empty (ap (λ (m : ℕ). entries m (l .sources) (l .seen)) none-read ∙ no-entries (l .sources) (l .seen)) (ap (λ (m : ℕ). entries m (l .targets) (l .written)) none-written ∙ no-entries (l .targets) (l .written))
           (i .0) (i .1) (i .2) d (ap (λ (a : Act). stepBy a (uptoIn T k) (decode T .view) here later) e)
 
       -- it ran
-      pub turn-ran : {r : Run} {l : record-of.Lists} → record-of.Ran r l (run (valuesBelow (T .order) (T .writes) (T .targets) (T .written) k) (raw.programIn (T .lengths) (T .programs) place)) → a ≡ act.Run → Installed (columnsOf r l) status' reads' writes' sources' seen' targets' written' view' → reply (turn-answer.Ran t) (tables (T .held) (T .timestamps) (T .order) status' (T .withdrawn) (T .lengths) (T .programs) reads' writes' sources' seen' targets' written' view') ≡ raw.turned T
+      turn-ran : {r : Run} {l : record-of.Lists} → record-of.Ran r l (run (valuesBelow (T .order) (T .writes) (T .targets) (T .written) k) (acts.programIn (T .lengths) (T .programs) place)) → a ≡ act.Run → Installed (columnsOf r l) status' reads' writes' sources' seen' targets' written' view' → reply (turn-answer.Ran t) (tables (T .held) (T .timestamps) (T .order) status' (T .withdrawn) (T .lengths) (T .programs) reads' writes' sources' seen' targets' written' view') ≡ turn.turned T
       unfolding runLists
       turn-ran {r} {l} o e i =
-          let same : run (valuesBelow (T .order) (T .writes) (T .targets) (T .written) k) (raw.programIn (T .lengths) (T .programs) place) ≡ run (uptoIn T k) (program here) = ap₂ run (values-below n T (g .0) (g .1) k (omega (arith, held))) (program-here n T (g .0) (g .1) k held) in
+          let same : run (valuesBelow (T .order) (T .writes) (T .targets) (T .written) k) (acts.programIn (T .lengths) (T .programs) place) ≡ run (uptoIn T k) (program here) = ap₂ run (values-below n T (g .0) (g .1) k (omega (arith, held))) (program-here n T (g .0) (g .1) k held) in
           ap (λ (t : ℕ). reply (turn-answer.Ran t) (tables (T .held) (T .timestamps) (T .order) status' (T .withdrawn) (T .lengths) (T .programs) reads' writes' sources' seen' targets' written' view')) (s ∙ timestamp-here)
           ∙ turn-installed (columnsOf r l) (columns-sized _ _ o short) (runLists (uptoIn T k) (program here)) (ap (λ (x : Outcome). x .reads) (o .outcome ∙ same)) (ap (λ (x : Outcome). x .writes) (o .outcome ∙ same))
           (i .0) (i .1) (i .2) d (ap (λ (a : Act). stepBy a (uptoIn T k) (decode T .view) here later) e)
+
+      -- it was cleared or ran
+      pub turn-replaced : {r : Run} {l : record-of.Lists} → (a ≡ act.Stand → ⊥) → acts.Made a r l (run (valuesBelow (T .order) (T .writes) (T .targets) (T .written) k) (acts.programIn (T .lengths) (T .programs) place)) → Installed (columnsOf r l) status' reads' writes' sources' seen' targets' written' view' → {answer : Turned} → answer ≡ turn.answerBy a t → reply answer (tables (T .held) (T .timestamps) (T .order) status' (T .withdrawn) (T .lengths) (T .programs) reads' writes' sources' seen' targets' written' view') ≡ turn.turned T
+      turn-replaced {r} {l} moves m i q =
+          ap (λ (answer : Turned). reply answer (tables (T .held) (T .timestamps) (T .order) status' (T .withdrawn) (T .lengths) (T .programs) reads' writes' sources' seen' targets' written' view')) q ∙ go a refl
+        where
+          go : (b : Act) → a ≡ b → reply (turn.answerBy b t) (tables (T .held) (T .timestamps) (T .order) status' (T .withdrawn) (T .lengths) (T .programs) reads' writes' sources' seen' targets' written' view') ≡ turn.turned T
+          go act.Clear e = turn-cleared (columnsOf r l) (made-sized _ _ moves m short) (m .cleared e .0) (m .cleared e .1) e i
+          go act.Stand e = absurd (moves e)
+          go act.Run e = turn-ran (m .ran e) e i

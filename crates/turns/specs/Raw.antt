@@ -1,153 +1,32 @@
--- What one turn decides and stores, as functions of the lent lists.
+-- One turn on the lent tables.
 use mathlib.Core.Path.{_≡_}
-use mathlib.Core.Bool.{Bool, true, cond, _&&_}
-use mathlib.Core.List.{List}
-use Prim.Native.Nat.{ℕ, _+_, _-_, _*_, _<_, _≤_}
-use lib.Dec.{eqb}
-use lib.IntN.{ℤ, pos}
-use lib.ListN.{length, getD, set, take, replicate}
-use Rattle.machine.specs.Settings.{settingCount}
-use Rattle.machine.specs.Form.{wellFormed}
-use Rattle.model.specs.History.{allHold}
+use mathlib.Core.Bool.{Bool, true, false}
+use Prim.Native.Nat.{ℕ}
+use lib.ListN.{length}
 use Rattle.model.specs.declared.Turned.{Turned}
-use Rattle.model.specs.Tables.{Tables, slots, decode}
+use Rattle.model.specs.declared.Turned.the-variants as turn-answer
+use Rattle.model.specs.Tables.{Tables, decode}
 use Rattle.model.specs.Form.{lengthsFit, inForm}
 use Rattle.model.specs.Calls.{Reply, stepReply, roundOf}
-use Rattle.search.specs.Raw.{Placed, writesIn}
-use Rattle.search.specs.Raw as search
-use Rattle.execution.specs.Raw.{valuesBelow, oldValues, newValues, markedLive, markedValues}
-use Rattle.marking.specs.Raw.{listAt, markedStatus, liveAfter, followed, replaced, replacedZ, Walkable}
-use Rattle.turns.specs.declared.Act.{Act}
-use Rattle.turns.specs.declared.Act.the-variants as act
-
--- by flag and status, and whether every value seen is the value as of its timestamp
-unfoldable pub actOf : ℕ → ℕ → Bool → Act
-actOf flag status holds = cond (eqb flag 0) (cond (eqb status 2 && holds) act.Stand act.Run) act.Clear
-
--- the program of a place
-abbrev pub programIn : List ℕ → List ℕ → ℕ → List ℕ
-programIn lengths programs place = slots 256 place (8 * getD lengths place 0) programs
-
--- does every value seen at a place hold as of a position
-abbrev pub seenHold : List ℕ → List ℕ → List ℤ → List ℕ → List ℕ → List ℕ → List ℤ → ℕ → Bool
-seenHold reads sources seen order writes targets written k =
-    allHold (writesIn reads sources seen (getD order k 0)) (valuesBelow order writes targets written k)
-
--- what the code relies on at a position of the order list: its place has slots in the tables
-pub record Positioned (k count : ℕ) (order : List ℕ) (places : ℕ) : Type 0 where
-  pub held : k < count
-  pub ordered : count ≤ length order
-  pub few : count ≤ 4096
-  pub small : places ≤ 4096
-  pub place : getD order k 0 < places
-
--- what the decision relies on
-pub record Decidable (k count : ℕ) (order status withdrawn reads sources : List ℕ) (seen : List ℤ) (writes targets : List ℕ) (written : List ℤ) : Type 0 where
-  pub at : Positioned k count order (length writes)
-  pub status-slots : length status ≡ length writes
-  pub flag-slots : length withdrawn ≡ length writes
-  pub read-counts : length reads ≡ length writes
-  pub source-slots : length sources ≡ 32 * length writes
-  pub seen-slots : length seen ≡ 32 * length writes
-  pub short : getD reads (getD order k 0) 0 ≤ 32
-  pub placed : Placed k order (length writes)
-  pub listed : search.Listed writes targets written
-
--- what the run relies on
-pub record Runnable (k : ℕ) (order lengths programs writes targets : List ℕ) (written : List ℤ) : Type 0 where
-  pub ordered : k < length order
-  pub place : getD order k 0 < length lengths
-  pub small : length lengths ≤ 4096
-  pub blocks : length programs ≡ 256 * length lengths
-  pub short : getD lengths (getD order k 0) 0 ≤ 32
-  pub formed : wellFormed (programIn lengths programs (getD order k 0)) ≡ true
-  pub placed : Placed k order (length writes)
-  pub listed : search.Listed writes targets written
-
--- what marking relies on
-pub record Propagable (k count : ℕ) (order status reads sources writes targets : List ℕ) (written : List ℤ) : Type 0 where
-  pub at : Positioned k count order (length writes)
-  pub status-slots : length status ≡ length writes
-  pub read-counts : length reads ≡ length writes
-  pub source-slots : length sources ≡ 32 * length writes
-  pub short : getD writes (getD order k 0) 0 ≤ 32
-  pub settings : (i : ℕ) → i < length (listAt writes targets (getD order k 0)) → getD (listAt writes targets (getD order k 0)) i 0 < settingCount
-  pub walkable : Walkable count order (length status) reads sources writes targets
-  pub placed : Placed k order (length writes)
-  pub listed : search.Listed writes targets written
-
--- ---- the settings that change where the writes at a position are replaced by the first size of new ones
-
-module _ (order writes targets : List ℕ) (written : List ℤ) (k size : ℕ) (newTargets : List ℕ) (newWritten : List ℤ) where
-  abbrev pub changedLive : List ℕ
-  changedLive =
-      let mark = markedLive (oldValues order writes targets written k (getD order k 0)) (newValues order writes targets written k size newTargets newWritten) in
-      mark (take size newTargets) (mark (listAt writes targets (getD order k 0)) (replicate settingCount 0))
-
-  abbrev pub changedValues : List ℤ
-  changedValues =
-      let mark = markedValues (oldValues order writes targets written k (getD order k 0)) (newValues order writes targets written k size newTargets newWritten) in
-      mark (take size newTargets) (mark (listAt writes targets (getD order k 0)) (replicate settingCount (pos 0)))
-
--- what that marks, and the view that follows, where the status of the change is Valid
-module _ (count : ℕ) (order reads sources writes targets : List ℕ) (k : ℕ) (live : List ℕ) where
-  unfoldable pub statusAfter : List ℕ → List ℕ
-  statusAfter status = markedStatus order reads sources writes targets (k + 1) (count - (k + 1)) live (set status (getD order k 0) 1)
-
-  unfoldable pub viewAfter : List ℤ → List ℤ → List ℤ
-  viewAfter values view = followed (liveAfter order writes targets (k + 1) (count - (k + 1)) live) values view
-
--- new lists: the counts and the first entries of four columns
-pub record NewLists : Type 0 where
-  pub reads : ℕ
-  pub writes : ℕ
-  pub sources : List ℕ
-  pub seen : List ℤ
-  pub targets : List ℕ
-  pub written : List ℤ
-
-abbrev pub newLists : ℕ → ℕ → List ℕ → List ℤ → List ℕ → List ℤ → NewLists
-newLists reads writes sources seen targets written = record { reads = reads; writes = writes; sources = sources; seen = seen; targets = targets; written = written }
-
--- the first size of new writes, in 32 slots, are of settings
-pub record NewWrites (size : ℕ) (targets : List ℕ) (written : List ℤ) : Type 0 where
-  pub short : size ≤ 32
-  pub target-slots : length targets ≡ 32
-  pub value-slots : length written ≡ 32
-  pub settings : (i : ℕ) → i < length (take size targets) → getD (take size targets) i 0 < settingCount
-
--- new lists in their 32 slots
-pub record Sized (l : NewLists) : Type 0 where
-  pub short : l .reads ≤ 32
-  pub sources : length (l .sources) ≡ 32
-  pub seen : length (l .seen) ≡ 32
-  pub wrote : NewWrites (l .writes) (l .targets) (l .written)
-
--- the six tables of lists before and after new lists are put at a place
-pub record Put (place : ℕ) (l : NewLists) (reads writes sources : List ℕ) (seen : List ℤ) (targets : List ℕ) (written : List ℤ) (reads' writes' sources' : List ℕ) (seen' : List ℤ) (targets' : List ℕ) (written' : List ℤ) : Type 0 where
-  pub reads-put : reads' ≡ set reads place (l .reads)
-  pub writes-put : writes' ≡ set writes place (l .writes)
-  pub sources-put : sources' ≡ replaced place (take (l .reads) (l .sources)) sources
-  pub seen-put : seen' ≡ replacedZ place (take (l .reads) (l .seen)) seen
-  pub targets-put : targets' ≡ replaced place (take (l .writes) (l .targets)) targets
-  pub written-put : written' ≡ replacedZ place (take (l .writes) (l .written)) written
-
--- a place has its slots
-pub record Room (place : ℕ) (reads writes sources : List ℕ) (seen : List ℤ) (targets : List ℕ) (written : List ℤ) : Type 0 where
-  pub small : place < 4096
-  pub read-count : place < length reads
-  pub write-count : place < length writes
-  pub source-slots : 32 * place + 32 ≤ length sources
-  pub seen-slots : 32 * place + 32 ≤ length seen
-  pub target-slots : 32 * place + 32 ≤ length targets
-  pub value-slots : 32 * place + 32 ≤ length written
-
--- ---- the turn
+use Rattle.acts.specs.declared.Act.{Act}
+use Rattle.acts.specs.declared.Act.the-variants as act
 
 -- tables in form; their capacity is the length of the order list
 abbrev pub Formed : Tables → Type 0
 Formed T = (lengthsFit (length (T .order)) T ≡ true) × (inForm (length (T .order)) T ≡ true)
 
 -- the answer and the tables after one turn (Figure 1)
-abbrev pub turned : Tables → Reply Turned
+unfoldable pub turned : Tables → Reply Turned
 turned T = stepReply (length (T .order)) T (decode T) (roundOf (decode T))
+
+-- ---- by what is done with a change
+
+abbrev pub isStand : Act → Bool
+isStand act.Clear = false
+isStand act.Stand = true
+isStand act.Run = false
+
+abbrev pub answerBy : Act → ℕ → Turned
+answerBy act.Clear t = turn-answer.Cleared t
+answerBy act.Stand t = turn-answer.Stood t
+answerBy act.Run t = turn-answer.Ran t

@@ -1,5 +1,5 @@
 -- `checker::drain` meets its contract: an outcome for each return. Assumes nothing.
-use borrow.Author.Needs.{needs}
+use mathlib.Core.Path.{refl}
 use Rattle.model.specs.Tables.{Tables, tables}
 use Rattle.tables.proofs.Faults.{Faultless, faultless}
 use Rattle.checker.proofs.Outcomes.{drain-fault, formed, drain-done}
@@ -35,15 +35,15 @@ pub drain-spec : {M : Type 1} → statement M
 drain-spec =
     tie.close
     (tie.spec
-    (λ c κs. search needs)
-    (λ c. search needs)
-    (λ c. search needs)
-    (λ c. search needs)
-    (λ c. search needs)
-    (λ c. search needs)
-    (λ c. search needs)
-    (λ c. search needs)
-    (λ c. search needs)
+    (λ c κs. tt)
+    (λ c. refl)
+    (λ c. refl)
+    (λ c. refl)
+    (λ c. refl)
+    (λ c. refl)
+    (λ c. refl)
+    (λ c. refl)
+    (λ c. refl)
     returns
     turn-all-requires
     (λ c. c .before .before .before .before .before .before .before .before .before .before .before .before .before .turn-all .kept .1 .1 .1 .0)

@@ -8,8 +8,8 @@ use Rattle.machine.specs.declared.Instruction.{Instruction}
 use Rattle.machine.specs.Settings.{Environment}
 use Rattle.machine.specs.Instruction.{instructionAt, instructionCount}
 use Rattle.machine.specs.Run.{effect, wanted}
-use Rattle.interpreter.specs.Record.{lists, Ran}
-use Rattle.interpreter.proofs.Numbers.{read}
+use Rattle.run_record.specs.Record.{lists, Ran}
+use Rattle.bytecode.proofs.Numbers.{read}
 use Rattle.interpreter.proofs.Loop.{operands, performable, Reached, ready, begins, ends, goes-on, has-ended}
 use Rattle.execution.specs.Raw.{valuesBelow, onSettings}
 use Rattle.execution.proofs.OnSettings.{run-on-settings}

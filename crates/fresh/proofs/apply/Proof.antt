@@ -5,7 +5,7 @@ use borrow.Author.Needs.{needs}
 use Rattle.machine.specs.Settings.{Distinct, carry}
 use Rattle.machine.specs.Run.{Outcome}
 use Rattle.machine.proofs.Lists.{run-bounded}
-use Rattle.interpreter.proofs.Entries.{entries-of-settings}
+use Rattle.run_record.proofs.Entries.{entries-of-settings}
 use Rattle.fresh.proofs.apply.Statement.{statement}
 use Rattle.fresh.proofs.apply.Tie as tie
 

@@ -1,8 +1,8 @@
 -- `intake::take_in` meets its contract: an outcome for each return. Assumes nothing.
-use borrow.Author.Needs.{needs}
+use mathlib.Core.Path.{refl}
 use Rattle.model.specs.Tables.{Tables, tables}
 use Rattle.tables.proofs.Faults.{Faultless, faultless}
-use Rattle.intake.proofs.Items.{take-item-ready}
+use Rattle.item_steps.proofs.Items.{take-item-ready}
 use Rattle.intake.proofs.Outcomes.{take-fault, take-reply}
 use Rattle.intake.proofs.take_in.Statement.{statement}
 use Rattle.intake.proofs.take_in.Tie as tie
@@ -37,16 +37,16 @@ take-in-spec =
     tie.close
     (tie.spec
     (λ c κs. tt)
-    (λ c. search needs)
-    (λ c. search needs)
-    (λ c. search needs)
-    (λ c. search needs)
-    (λ c. search needs)
+    (λ c. refl)
+    (λ c. refl)
+    (λ c. refl)
+    (λ c. refl)
+    (λ c. refl)
     returns
     take-item-requires
-    (λ c. search needs)
-    (λ c. search needs)
-    (λ c. search needs)
-    (λ c. search needs)
-    (λ c. search needs)
+    (λ c. c .before .before .before .before .before .before .before .before .before .before .take-item .kept .1 .0)
+    (λ c. c .before .before .before .before .before .before .before .before .before .before .take-item .kept .1 .1 .0)
+    (λ c. c .before .before .before .before .before .before .before .before .before .before .take-item .kept .1 .1 .1 .0)
+    (λ c. c .before .before .before .before .before .before .before .before .before .before .take-item .kept .1 .1 .1 .1 .0)
+    (λ c. c .before .before .before .before .before .before .before .before .before .before .take-item .kept .1 .1 .1 .1 .1 .0)
     returns-2)

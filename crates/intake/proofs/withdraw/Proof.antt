@@ -1,8 +1,8 @@
 -- `intake::withdraw` meets its contract: an outcome for each return. Assumes nothing.
-use borrow.Author.Needs.{needs}
+use mathlib.Core.Path.{refl}
 use Rattle.model.specs.Tables.{Tables, tables}
 use Rattle.tables.proofs.Faults.{Faultless, faultless}
-use Rattle.intake.proofs.Items.{withdraw-item-ready}
+use Rattle.item_steps.proofs.Items.{withdraw-item-ready}
 use Rattle.intake.proofs.Outcomes.{withdraw-fault, withdraw-reply}
 use Rattle.intake.proofs.withdraw.Statement.{statement}
 use Rattle.intake.proofs.withdraw.Tie as tie
@@ -37,10 +37,10 @@ withdraw-spec =
     tie.close
     (tie.spec
     (λ c κs. tt)
-    (λ c. search needs)
-    (λ c. search needs)
+    (λ c. refl)
+    (λ c. refl)
     returns
     withdraw-item-requires
-    (λ c. search needs)
-    (λ c. search needs)
+    (λ c. c .before .before .before .before .withdraw-item .kept .1 .1 .1 .0)
+    (λ c. c .before .before .before .before .withdraw-item .kept .1 .1 .1 .1 .0)
     returns-2)

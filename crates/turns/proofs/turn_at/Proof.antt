@@ -1,12 +1,10 @@
 -- `turns::turn_at` meets its contract: an outcome for each return. Assumes nothing.
-use mathlib.Core.Path.{refl}
+use mathlib.Core.Path.{refl, sym, _∙_}
 use native.Mathlib.Omega.{arith}
 use borrow.Author.Needs.{needs}
-use Prim.Native.Nat.{_≤_}
-use lib.ListN.{length, getD, length-set}
+use lib.ListN.{length-set}
 use Rattle.model.specs.Tables.{Tables, tables}
-use Rattle.turns.specs.Raw as raw
-use Rattle.turns.proofs.Model.{Slots, slots, decidable, runnable, columns-sized, none-sized, installable, turn-stood, turn-cleared, turn-ran, short}
+use Rattle.turns.proofs.Model.{Slots, slots, is-stand, not-stand, decidable, runnable, made-sized, installable, turn-stood, turn-replaced, short}
 use Rattle.turns.proofs.turn_at.Statement.{statement}
 use Rattle.turns.proofs.turn_at.Tie as tie
 
@@ -21,54 +19,37 @@ at s = slots (lent s) (s .pre .0) (s .args .k) (s .pre .1)
 abbrev entry : tie.After-act-at → tie.Start
 entry c = c .before .before .before .before .before .before .before .before .before .before .before .before .before .before .before .before .before .before .before .before .before .before
 
--- the change is cleared
-abbrev clearing : tie.After-install-arg8 → tie.After-act-at
-clearing c = c .before .before .before .before .before .before .before .before .before .before .before .before .before .before
-
-install-requires : tie.Need-install-requires
-install-requires c κs =
-    let s = entry (clearing c) in
-    installable (lent s) (s .pre .0) (s .args .k) (s .pre .1) _ none-sized
-
+-- it stood
 returns : tie.Need-returns
 returns c =
-    let i = c .before .before .before .before .before .before .before .before .before .before .before .before .before in
-    let m = clearing (i .before) in
-    let s = entry m in
-    turn-cleared (lent s) (s .pre .0) (s .args .k) (s .pre .1) (m .act-at .ensures) refl _ none-sized refl refl (i .before .before .before .before .before .before .before .before .before .before .before .before .before .enum-told .given .1) (i .install .ensures)
-
--- it stood
-returns-2 : tie.Need-returns-2
-returns-2 c =
     let m = c .before .before in
     let s = entry m in
-    turn-stood (lent s) (s .pre .0) (s .args .k) (s .pre .1) (m .act-at .ensures) (c .enum-told2 .given .1) refl refl
+    turn-stood (lent s) (s .pre .0) (s .args .k) (s .pre .1) (m .act-at .ensures) (is-stand _ (sym (c .before .stands .ensures) ∙ c .if1 .taken)) refl refl
 
--- it ran
-short-program : (s : tie.Start) → length (raw.programIn (s .args .lengths .now) (s .args .programs .now) (getD (s .args .order .now) (s .args .k) 0)) ≤ 256
-short-program s = short (lent s) (s .pre .0) (s .args .k) (s .pre .1)
+-- it was cleared or ran
+abbrev decided : tie.After-new-lists → tie.Else1
+decided c = c .before .before .before .before .before .before .before .before
 
-abbrev running : tie.After-run-change → tie.After-act-at
-running c = c .before .before .before .before .before .before .before .before .before .before
-
-run-change-requires : tie.Need-run-change-requires
-run-change-requires c κs =
+new-lists-requires : tie.Need-new-lists-requires
+new-lists-requires c κs =
     let s = entry (c .before .before .before .before .before .before .before .before .before) in
     (runnable (lent s) (s .pre .0) (s .args .k) (s .pre .1), record { sources = refl; seen = refl; targets = refl; written = refl })
 
-install-requires-2 : tie.Need-install-requires-2
-install-requires-2 c κs =
-    let r = c .before .before .before .before .before .before .before .before .before .before .before .before in
-    let s = entry (running r) in
-    installable (lent s) (s .pre .0) (s .args .k) (s .pre .1) _ (columns-sized _ _ (r .run-change .ensures) (short-program s))
+install-requires : tie.Need-install-requires
+install-requires c κs =
+    let l = c .before .before .before .before .before .before .before .before .before .before .before .before in
+    let e = decided l in
+    let s = entry (e .before .before) in
+    installable (lent s) (s .pre .0) (s .args .k) (s .pre .1) _ (made-sized _ _ (not-stand _ (sym (e .before .stands .ensures) ∙ e .if1 .left)) (l .new-lists .ensures) (short (lent s) (s .pre .0) (s .args .k) (s .pre .1)))
 
-returns-3 : tie.Need-returns-3
-returns-3 c =
-    let i = c .before .before .before .before .before .before .before .before .before .before .before .before .before in
-    let r = i .before .before .before .before .before .before .before .before .before .before .before .before .before in
-    let m = running r in
+returns-2 : tie.Need-returns-2
+returns-2 c =
+    let i = c .before .before .before .before .before .before .before .before .before .before .before .before .before .before in
+    let l = i .before .before .before .before .before .before .before .before .before .before .before .before .before in
+    let e = decided l in
+    let m = e .before .before in
     let s = entry m in
-    turn-ran (lent s) (s .pre .0) (s .args .k) (s .pre .1) (m .act-at .ensures) refl (r .run-change .ensures) (r .before .before .before .before .before .before .before .before .enum-told3 .given .1) (i .install2 .ensures)
+    turn-replaced (lent s) (s .pre .0) (s .args .k) (s .pre .1) (m .act-at .ensures) refl (not-stand _ (sym (e .before .stands .ensures) ∙ e .if1 .left)) (l .new-lists .ensures) (i .install .ensures) (c .answer-of .ensures)
 
 pub turn-at-spec : {M : Type 1} → statement M
 turn-at-spec =
@@ -82,45 +63,30 @@ turn-at-spec =
     (λ c. omega (arith, at (c .before .before .before .before .before .before .before .before .before .before .before .before .before) .place))
     (λ c. at (c .before .before .before .before .before .before .before .before .before .before .before .before .before .before) .timestamps)
     (λ c κs. let s = c .before .before .before .before .before .before .before .before .before .before .before .before .before .before .before .before .before .before .before .before .before in decidable (lent s) (s .pre .0) (s .args .k) (s .pre .1))
-    (λ c. search needs)
+    (λ c κs. tt)
+    (λ c. omega (arith, at (c .before .before .before .before .before .before .before .before .before .before .before .before .before .before .before .before .before .before .before .before .before .before .before .before) .place))
+    (λ c. at (c .before .before .before .before .before .before .before .before .before .before .before .before .before .before .before .before .before .before .before .before .before .before .before .before) .status)
+    (λ c. length-set (entry (c .before .before) .args .status .now) _ 1)
+    (λ c. refl)
+    (λ c. refl)
+    (λ c. refl)
+    (λ c. refl)
+    (λ c. refl)
+    (λ c. refl)
+    returns
+    new-lists-requires
     (λ c. search needs)
     (λ c. search needs)
     (λ c. search needs)
     (λ c. search needs)
     install-requires
-    (λ c. search needs)
-    (λ c. omega (arith, at (c .before .before .before .before .before .before .before .before .before .before .before .before .before .before .before .before .before .before .before .before .before .before .before .before) .place))
-    (λ c. at (c .before .before .before .before .before .before .before .before .before .before .before .before .before .before .before .before .before .before .before .before .before .before .before .before) .status)
-    (λ c. search needs)
-    run-change-requires
-    (λ c. search needs)
-    (λ c. search needs)
-    (λ c. search needs)
-    (λ c. search needs)
-    install-requires-2
-    (λ c. c .before .before .before .before .before .before .before .before .before .before .before .before .before .install .kept .1 .1 .1 .1 .1 .1 .1 .1 .1 .0)
-    (λ c. c .before .before .before .before .before .before .before .before .before .before .before .before .before .install .kept .1 .1 .1 .1 .1 .1 .1 .1 .1 .1 .0)
-    (λ c. c .before .before .before .before .before .before .before .before .before .before .before .before .before .install .kept .1 .1 .1 .1 .1 .1 .1 .1 .1 .1 .1 .0)
-    (λ c. c .before .before .before .before .before .before .before .before .before .before .before .before .before .install .kept .1 .1 .1 .1 .1 .1 .1 .1 .1 .1 .1 .1 .0)
-    (λ c. c .before .before .before .before .before .before .before .before .before .before .before .before .before .install .kept .1 .1 .1 .1 .1 .1 .1 .1 .1 .1 .1 .1 .1 .0)
-    (λ c. c .before .before .before .before .before .before .before .before .before .before .before .before .before .install .kept .1 .1 .1 .1 .1 .1 .1 .1 .1 .1 .1 .1 .1 .1 .0)
-    (λ c. c .before .before .before .before .before .before .before .before .before .before .before .before .before .install .kept .1 .1 .1 .1 .1 .1 .1 .1 .1 .1 .1 .1 .1 .1 .1 .0)
-    (λ c. c .before .before .before .before .before .before .before .before .before .before .before .before .before .install .kept .1 .1 .1 .1 .1 .1 .1 .1 .1 .1 .1 .1 .1 .1 .1 .1 .0)
-    returns
-    (λ c. length-set (entry (c .before .before) .args .status .now) _ 1)
-    (λ c. search needs)
-    (λ c. search needs)
-    (λ c. search needs)
-    (λ c. search needs)
-    (λ c. search needs)
-    (λ c. search needs)
-    returns-2
-    (λ c. c .before .before .before .before .before .before .before .before .before .before .before .before .before .install2 .kept .1 .1 .1 .1 .1 .1 .1 .1 .1 .0)
-    (λ c. c .before .before .before .before .before .before .before .before .before .before .before .before .before .install2 .kept .1 .1 .1 .1 .1 .1 .1 .1 .1 .1 .0)
-    (λ c. c .before .before .before .before .before .before .before .before .before .before .before .before .before .install2 .kept .1 .1 .1 .1 .1 .1 .1 .1 .1 .1 .1 .0)
-    (λ c. c .before .before .before .before .before .before .before .before .before .before .before .before .before .install2 .kept .1 .1 .1 .1 .1 .1 .1 .1 .1 .1 .1 .1 .0)
-    (λ c. c .before .before .before .before .before .before .before .before .before .before .before .before .before .install2 .kept .1 .1 .1 .1 .1 .1 .1 .1 .1 .1 .1 .1 .1 .0)
-    (λ c. c .before .before .before .before .before .before .before .before .before .before .before .before .before .install2 .kept .1 .1 .1 .1 .1 .1 .1 .1 .1 .1 .1 .1 .1 .1 .0)
-    (λ c. c .before .before .before .before .before .before .before .before .before .before .before .before .before .install2 .kept .1 .1 .1 .1 .1 .1 .1 .1 .1 .1 .1 .1 .1 .1 .1 .0)
-    (λ c. c .before .before .before .before .before .before .before .before .before .before .before .before .before .install2 .kept .1 .1 .1 .1 .1 .1 .1 .1 .1 .1 .1 .1 .1 .1 .1 .1 .0)
-    returns-3)
+    (λ c κs. tt)
+    (λ c. c .before .before .before .before .before .before .before .before .before .before .before .before .before .before .install .kept .1 .1 .1 .1 .1 .1 .1 .1 .1 .0)
+    (λ c. c .before .before .before .before .before .before .before .before .before .before .before .before .before .before .install .kept .1 .1 .1 .1 .1 .1 .1 .1 .1 .1 .0)
+    (λ c. c .before .before .before .before .before .before .before .before .before .before .before .before .before .before .install .kept .1 .1 .1 .1 .1 .1 .1 .1 .1 .1 .1 .0)
+    (λ c. c .before .before .before .before .before .before .before .before .before .before .before .before .before .before .install .kept .1 .1 .1 .1 .1 .1 .1 .1 .1 .1 .1 .1 .0)
+    (λ c. c .before .before .before .before .before .before .before .before .before .before .before .before .before .before .install .kept .1 .1 .1 .1 .1 .1 .1 .1 .1 .1 .1 .1 .1 .0)
+    (λ c. c .before .before .before .before .before .before .before .before .before .before .before .before .before .before .install .kept .1 .1 .1 .1 .1 .1 .1 .1 .1 .1 .1 .1 .1 .1 .0)
+    (λ c. c .before .before .before .before .before .before .before .before .before .before .before .before .before .before .install .kept .1 .1 .1 .1 .1 .1 .1 .1 .1 .1 .1 .1 .1 .1 .1 .0)
+    (λ c. c .before .before .before .before .before .before .before .before .before .before .before .before .before .before .install .kept .1 .1 .1 .1 .1 .1 .1 .1 .1 .1 .1 .1 .1 .1 .1 .1 .0)
+    returns-2)

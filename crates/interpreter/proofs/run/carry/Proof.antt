@@ -7,7 +7,7 @@ use lib.ListN.{length, getD}
 use mir.Facts.{toZ-ofZ}
 use Rattle.machine.specs.Settings.{entries, carry}
 use Rattle.machine.proofs.Settings.{length-carry}
-use Rattle.interpreter.proofs.Entries.{carry-stored}
+use Rattle.run_record.proofs.Entries.{carry-stored}
 use Rattle.interpreter.proofs.run.carry.Statement.{statement}
 use Rattle.interpreter.proofs.run.carry.Tie as tie
 

@@ -8,8 +8,8 @@ use Rattle.machine.specs.declared.Instruction.{Instruction}
 use Rattle.machine.specs.Settings.{valueIn}
 use Rattle.machine.specs.Run.{effect, wanted}
 use Rattle.machine.specs.Instruction.{instructionAt}
-use Rattle.interpreter.specs.Record.{lists}
-use Rattle.interpreter.proofs.Numbers.{read}
+use Rattle.run_record.specs.Record.{lists}
+use Rattle.bytecode.proofs.Numbers.{read}
 use Rattle.interpreter.proofs.Loop.{operands, performable, Reached, ready, begins, ends, goes-on, has-ended}
 use Rattle.interpreter.proofs.run.run_program.Statement.{statement}
 use Rattle.interpreter.proofs.run.run_program.Tie as tie

@@ -1,0 +1,155 @@
+// Taking in a package: its entries carried out on tables in form, and the call.
+use item_steps::take_item;
+use item_steps::withdraw_item;
+use model::Answer;
+use packages::count_at;
+use packages::entry_at;
+use packages::entry_count;
+use packages::kind_at;
+use packages::layout_fits;
+use packages::number_of;
+use packages::timestamp_at;
+use tables::form::fault;
+ghost use mathlib.Core.Path.{_≡_};
+ghost use Rattle.model.specs.Tables.{tables};
+ghost use Rattle.model.specs.Calls.{packageReply, takeInPackage};
+ghost use Rattle.package_intake.specs.Entries.{itemTables, EntryReady, EntryTaken, EntriesReady, EntriesTaken};
+
+// Entry j of a package carried out, on tables in form. Its body begins at `body`.
+fn take_entry(
+    n: usize,
+    bytes: &[u8],
+    j: usize,
+    body: usize,
+    held: &mut [u16],
+    timestamps: &mut [u64],
+    order: &mut [u16],
+    status: &mut [u16],
+    withdrawn: &mut [u16],
+    lengths: &mut [u16],
+    programs: &mut [u8],
+) -> Answer
+    requires { ⌜ EntryReady n (now bytes) j body (itemTables (now held) (now timestamps) (now order) (now status) (now withdrawn) (now lengths) (now programs)) ⌝ }
+    ensures { λ r. ⌜ EntryTaken n (now (bytes .entry)) j r (itemTables (now (held .entry)) (now (timestamps .entry)) (now (order .entry)) (now (status .entry)) (now (withdrawn .entry)) (now (lengths .entry)) (now (programs .entry))) (itemTables (now (held .exit)) (now (timestamps .exit)) (now (order .exit)) (now (status .exit)) (now (withdrawn .exit)) (now (lengths .exit)) (now (programs .exit))) ⌝ }
+{
+    let t = timestamp_at(bytes, j);
+    if kind_at(bytes, j) == 0 {
+        let end = body + 8 * count_at(bytes, j);
+        return take_item(
+            n,
+            held,
+            timestamps,
+            order,
+            lengths,
+            programs,
+            t,
+            &bytes[body..end],
+        );
+    }
+    withdraw_item(held, timestamps, order, status, withdrawn, t)
+}
+
+// The entries of a package carried out in order, on tables in form, and the number of each one's answer stored. A refused entry stops nothing.
+fn take_entries(
+    n: usize,
+    bytes: &[u8],
+    held: &mut [u16],
+    timestamps: &mut [u64],
+    order: &mut [u16],
+    status: &mut [u16],
+    withdrawn: &mut [u16],
+    lengths: &mut [u16],
+    programs: &mut [u8],
+    answers: &mut [u8],
+)
+    requires { ⌜ EntriesReady n (now bytes) (now answers) (itemTables (now held) (now timestamps) (now order) (now status) (now withdrawn) (now lengths) (now programs)) ⌝ }
+    ensures { λ _. ⌜ EntriesTaken n (now (bytes .entry)) (now (answers .entry)) (now (answers .exit)) (itemTables (now (held .entry)) (now (timestamps .entry)) (now (order .entry)) (now (status .entry)) (now (withdrawn .entry)) (now (lengths .entry)) (now (programs .entry))) (itemTables (now (held .exit)) (now (timestamps .exit)) (now (order .exit)) (now (status .exit)) (now (withdrawn .exit)) (now (lengths .exit)) (now (programs .exit))) ⌝ }
+{
+    let count = entry_count(bytes);
+    let mut body = entry_at(count);
+    let mut j = 0;
+    let mut left = 0 < count;
+    while left {
+        let answer = take_entry(
+            n,
+            bytes,
+            j,
+            body,
+            held,
+            timestamps,
+            order,
+            status,
+            withdrawn,
+            lengths,
+            programs,
+        );
+        let number = number_of(answer);
+        answers[j] = number;
+        body += 8 * count_at(bytes, j);
+        j += 1;
+        left = j < count;
+    }
+}
+
+// Taking in a package: each entry taken in or withdrawn, in order. Form is tested once.
+pub fn take_in_package(
+    n: usize,
+    held: &mut [u16],
+    timestamps: &mut [u64],
+    order: &mut [u16],
+    status: &mut [u16],
+    withdrawn: &mut [u16],
+    lengths: &mut [u16],
+    programs: &mut [u8],
+    reads: &[u16],
+    writes: &[u16],
+    sources: &[u16],
+    seen: &[i32],
+    targets: &[u16],
+    written: &[i32],
+    view: &[i32],
+    bytes: &[u8],
+    answers: &mut [u8],
+) -> Answer
+    ensures { λ r. ⌜ packageReply r (tables (now (held .exit)) (now (timestamps .exit)) (now (order .exit)) (now (status .exit)) (now (withdrawn .exit)) (now (lengths .exit)) (now (programs .exit)) (now (reads .entry)) (now (writes .entry)) (now (sources .entry)) (now (seen .entry)) (now (targets .entry)) (now (written .entry)) (now (view .entry))) (now (answers .exit)) ≡ takeInPackage n (tables (now (held .entry)) (now (timestamps .entry)) (now (order .entry)) (now (status .entry)) (now (withdrawn .entry)) (now (lengths .entry)) (now (programs .entry)) (now (reads .entry)) (now (writes .entry)) (now (sources .entry)) (now (seen .entry)) (now (targets .entry)) (now (written .entry)) (now (view .entry))) (now (bytes .entry)) (now (answers .entry)) ⌝ }
+{
+    if answers.len() != 512 {
+        return Answer::Refused(1);
+    }
+    let refusal = fault(
+        n,
+        held,
+        timestamps,
+        order,
+        status,
+        withdrawn,
+        lengths,
+        programs,
+        reads,
+        writes,
+        sources,
+        seen,
+        targets,
+        written,
+        view,
+    );
+    if refusal != 0 {
+        return Answer::Refused(refusal);
+    }
+    if !layout_fits(bytes) {
+        return Answer::Refused(3);
+    }
+    take_entries(
+        n,
+        bytes,
+        held,
+        timestamps,
+        order,
+        status,
+        withdrawn,
+        lengths,
+        programs,
+        answers,
+    );
+    Answer::Done
+}
