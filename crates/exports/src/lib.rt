@@ -4,92 +4,20 @@ use checker::turn;
 use intake::take_in;
 use intake::take_in_package;
 use intake::withdraw;
-use model::Answer;
-use model::Drained;
-use model::Standing;
-use model::Turned;
-use model::Value;
+use numbers::answer_number;
+use numbers::put_timestamp;
+use numbers::put_totals;
+use numbers::standing_number;
+use numbers::value_number;
 use queries::current_value;
 use queries::plain_run;
 use queries::standing;
 use queries::value_as_of;
 use setup::set_up;
 ghost use mathlib.Core.Path.{_≡_};
-ghost use Prim.Native.Nat.{_<_};
-ghost use lib.ListN.{length};
 ghost use Rattle.model.specs.Tables.{tables};
 ghost use Rattle.model.specs.Calls.{answerNumber, setUp, takeIn, withdraw, takeInPackage, currentValue, valueAsOf, standing, plainRun};
-ghost use Rattle.exports.specs.Numbers.{valueNumber, standingNumber, turnedNumber, turnedTimestamp, drainedNumber, drainedTotals, sliceReply, turnNumbers, drainNumbers};
-
-// 0 done, 255 held already, else the refusal.
-fn answer_number(answer: Answer) -> u8
-    ensures { λ r. ⌜ r ≡ answerNumber answer ⌝ }
-{
-    match answer {
-        Answer::Done => 0,
-        Answer::Held => 255,
-        Answer::Refused(refusal) => refusal,
-    }
-}
-
-// A value, or 4,294,967,296 + the refusal.
-fn value_number(value: Value) -> i64
-    ensures { λ r. ⌜ r ≡ valueNumber value ⌝ }
-{
-    match value {
-        Value::Is(v) => v as i64,
-        Value::Refused(refusal) => 4294967296 + refusal as i64,
-    }
-}
-
-// Status + 256 × flag, or 65,536 + the refusal.
-fn standing_number(standing: Standing) -> u32
-    ensures { λ r. ⌜ r ≡ standingNumber standing ⌝ }
-{
-    match standing {
-        Standing::At(status, flag) => status as u32 + flag as u32 * 256,
-        Standing::Refused(refusal) => 65536 + refusal as u32,
-    }
-}
-
-// 0 idle, 1 ran, 2 stood, 3 cleared, or 16 + the refusal; the slice gets the timestamp of the change whose turn it was.
-fn put_timestamp(answer: Turned, timestamp: &mut [u64]) -> u8
-    requires { ⌜ (length (now timestamp) ≡ 1) × (turnedNumber answer < 256) ⌝ }
-    ensures { λ r. ⌜ (r ≡ turnedNumber answer) × (now (timestamp .exit) ≡ turnedTimestamp answer (now (timestamp .entry))) ⌝ }
-{
-    match answer {
-        Turned::Idle => 0,
-        Turned::Ran(t) => {
-            timestamp[0] = t;
-            1
-        }
-        Turned::Stood(t) => {
-            timestamp[0] = t;
-            2
-        }
-        Turned::Cleared(t) => {
-            timestamp[0] = t;
-            3
-        }
-        Turned::Refused(refusal) => 16 + refusal,
-    }
-}
-
-// 0 done, else the refusal; the slice gets how many turns ran, stood and were cleared.
-fn put_totals(answer: Drained, totals: &mut [u64]) -> u8
-    requires { ⌜ length (now totals) ≡ 3 ⌝ }
-    ensures { λ r. ⌜ (r ≡ drainedNumber answer) × (now (totals .exit) ≡ drainedTotals answer (now (totals .entry))) ⌝ }
-{
-    match answer {
-        Drained::Counted(counts) => {
-            totals[0] = counts.ran as u64;
-            totals[1] = counts.stood as u64;
-            totals[2] = counts.cleared as u64;
-            0
-        }
-        Drained::Refused(refusal) => refusal,
-    }
-}
+ghost use Rattle.numbers.specs.Numbers.{valueNumber, standingNumber, sliceReply, turnNumbers, drainNumbers};
 
 // Set up: the number of its answer.
 #[no_mangle]

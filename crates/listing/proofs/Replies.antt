@@ -1,28 +1,28 @@
 -- What the calls before a listing leave, and the listing by them.
 use mathlib.Core.Path.{_≡_, refl, sym, ap, subst, _∙_}
 use mathlib.Core.Bool.{Bool, true, false, cond, not, _&&_}
-use mathlib.Core.List.{List, [], _∷_, _++_}
+use mathlib.Core.List.{List, [], _∷_}
 use Prim.Native.Nat.{ℕ}
 use native.Mathlib.Omega.{arith}
-use borrow.Author.Tests.{eq-eqb, ne-eqb, eqb-true}
+use borrow.Author.Tests.{eqb-true}
 use lib.Dec.{eqb}
-use lib.IntN.{ℤ, pos}
+use lib.IntN.{pos}
 use lib.ListN.{length, replicate, length-replicate}
 use Rattle.machine.proofs.Cases.{both}
+use Rattle.text.specs.Pieces.{Put}
+use Rattle.text.proofs.Pieces.{put-as}
 use Rattle.model.specs.declared.Answer.{Answer}
 use Rattle.model.specs.declared.Answer.the-variants as answer
 use Rattle.model.specs.Tables.{Tables, tables}
 use Rattle.model.specs.Form.{lengthsFit, inForm}
 use Rattle.model.specs.Refusals.{test, firstOf, wrongLength, notInForm}
 use Rattle.model.specs.Package.{layoutFits, itemsOf}
-use Rattle.model.specs.Calls.{answerNumber, Reply, reply, setUp, PackageReply, packageReply, takeInPackage, drain}
-use Rattle.model.specs.Log.{drainEvents}
+use Rattle.model.specs.Calls.{answerNumber, Reply, reply, setUp, PackageReply, packageReply, takeInPackage}
 use Rattle.model.proofs.Form.{encode-lengths, encode-form, decode-sound}
 use Rattle.model.proofs.Items.{items-sound}
 use Rattle.model.proofs.Tests.{lengths-fit}
-use Rattle.tables.proofs.Faults.{Faultless}
-use Rattle.lines.specs.Lines.{packageLine}
-use Rattle.listing.specs.Listing.{capacity, entryLines, turnLines, settingLines, replyLines, listing}
+use Rattle.replies.specs.Replies.{capacity, replyLines}
+use Rattle.listing.specs.Listing.{listing}
 
 -- tables of zeros have the right lengths
 abbrev pub zeros : Tables
@@ -58,9 +58,8 @@ none-applies true false c e = absurd (omega arith)
 none-applies false b c e = absurd (omega arith)
 
 -- what an answered package says of the bytes and of the tables that it leaves
-pub record Answered (bytes : List ℕ) (U : Tables) : Type 0 where
-  pub laid-out : layoutFits bytes ≡ true
-  pub faultless : Faultless capacity U
+abbrev Answered : List ℕ → Tables → Type 0
+Answered bytes U = (layoutFits bytes ≡ true) × (lengthsFit capacity U ≡ true) × (inForm capacity U ≡ true)
 
 module _ (T : Tables) (bytes lent : List ℕ) where
   abbrev refusal : ℕ
@@ -79,30 +78,13 @@ module _ (T : Tables) (bytes lent : List ℕ) where
   leaves z =
       let t = none-applies (lengthsFit capacity T && eqb (length lent) 512) (inForm capacity T) (layoutFits bytes) z in
       let s = items-sound (itemsOf bytes) (decode-sound capacity T (both (lengthsFit capacity T) (t .0) .0) (t .1)) in
-      rw (t .0, t .1, t .2) (record { laid-out = t .2; faultless = (encode-lengths capacity _ s, encode-form capacity _ s) })
+      rw (t .0, t .1, t .2) (refl, encode-lengths capacity _ s, encode-form capacity _ s)
 
-  pub package-answered : {a : Answer} {U : Tables} {answers : List ℕ} {number : ℕ} → packageReply a U answers ≡ takeInPackage capacity T bytes lent → number ≡ answerNumber a → number ≡ 0 → Answered bytes U
-  package-answered e n z =
-      subst (Answered bytes) (ap (λ (r : PackageReply). r .tables) (sym e)) (leaves (not-refused (ap (λ (r : PackageReply). answerNumber (r .answer)) (sym e) ∙ sym n ∙ z)))
+  pub package-answered : {a : Answer} {U : Tables} {answers : List ℕ} → packageReply a U answers ≡ takeInPackage capacity T bytes lent → answerNumber a ≡ 0 → Answered bytes U
+  package-answered e z = subst (Answered bytes) (ap (λ (r : PackageReply). r .tables) (sym e)) (leaves (not-refused (ap (λ (r : PackageReply). answerNumber (r .answer)) (sym e) ∙ z)))
 
--- ---- the listing
-
-answered-lines : (m : ℕ) (lines : List ℕ) → m ≡ 0 → lines ≡ cond (eqb m 0) lines (packageLine m)
-answered-lines m lines z = rw (eq-eqb m 0 z)
-
-refused-line : (m : ℕ) (lines : List ℕ) → (m ≡ 0 → ⊥) → packageLine m ≡ cond (eqb m 0) lines (packageLine m)
-refused-line m lines h = rw (ne-eqb m 0 h)
-
-module _ (T : Tables) (bytes lent : List ℕ) {a : Answer} {T₁ : Tables} (e : reply a T₁ ≡ setUp capacity T) {b : Answer} {U : Tables} {answers : List ℕ} (f : packageReply b U answers ≡ takeInPackage capacity T₁ bytes lent) {number : ℕ} (n : number ≡ answerNumber b) where
-  by-reply : replyLines bytes (packageReply b U answers) ≡ listing T bytes lent
+-- the lines of the reply to a package on tables just set up are its listing
+module _ (T : Tables) (bytes lent : List ℕ) where
+  pub listed : {a : Answer} {T₁ : Tables} → reply a T₁ ≡ setUp capacity T → {b : Answer} {U : Tables} {answers : List ℕ} → packageReply b U answers ≡ takeInPackage capacity T₁ bytes lent → {before after : List ℕ} {end : ℕ} → Put 0 (replyLines bytes (packageReply b U answers)) before after end → Put 0 (listing T bytes lent) before after end
   unfolding listing
-  by-reply = ap (replyLines bytes) (f ∙ ap (λ (r : Reply Answer). takeInPackage capacity (r .tables) bytes lent) e)
-
-  pub listing-refused : (number ≡ 0 → ⊥) → packageLine number ≡ listing T bytes lent
-  listing-refused h = ap packageLine n ∙ refused-line (answerNumber b) _ (λ q. h (n ∙ q)) ∙ by-reply
-
-  pub listing-answered : {view : List ℤ} → number ≡ 0 → view ≡ drain capacity U .tables .view → entryLines bytes answers ++ turnLines (drainEvents capacity U) ++ settingLines view ≡ listing T bytes lent
-  listing-answered z v =
-      ap (λ (view : List ℤ). entryLines bytes answers ++ turnLines (drainEvents capacity U) ++ settingLines view) v
-      ∙ answered-lines (answerNumber b) _ (sym n ∙ z)
-      ∙ by-reply
+  listed e f p = put-as p (ap (replyLines bytes) (f ∙ ap (λ (r : Reply Answer). takeInPackage capacity (r .tables) bytes lent) e))

@@ -2,12 +2,12 @@
 use item_steps::take_item;
 use item_steps::withdraw_item;
 use model::Answer;
+use numbers::answer_number;
 use packages::count_at;
 use packages::entry_at;
 use packages::entry_count;
 use packages::kind_at;
 use packages::layout_fits;
-use packages::number_of;
 use packages::timestamp_at;
 use tables::form::fault;
 ghost use mathlib.Core.Path.{_≡_};
@@ -83,7 +83,7 @@ fn take_entries(
             lengths,
             programs,
         );
-        let number = number_of(answer);
+        let number = answer_number(answer);
         answers[j] = number;
         body += 8 * count_at(bytes, j);
         j += 1;

@@ -1,5 +1,4 @@
 // The layout of a package (refusal 3), and the parts of its entries.
-use model::Answer;
 ghost use mathlib.Core.Path.{_≡_};
 ghost use mathlib.Core.Bool.{_&&_};
 ghost use Prim.Native.Nat.{_+_, _*_, _<_, _≤_};
@@ -7,7 +6,6 @@ ghost use lib.Dec.{eqb};
 ghost use lib.ListN.{length};
 ghost use Rattle.machine.specs.Form.{allBelow};
 ghost use Rattle.model.specs.Package.{numberAt, entryCount, entryAt, stampOf, kindOf, countOf, entryFits, countBefore, layoutFits};
-ghost use Rattle.model.specs.Calls.{answerNumber};
 
 // The number in size bytes at i, low byte first.
 fn number_at(bytes: &[u8], i: usize, size: usize) -> u64
@@ -110,15 +108,4 @@ pub fn layout_fits(bytes: &[u8]) -> bool
         return false;
     }
     bodies_fit(bytes, count)
-}
-
-// The number of an answer: 0 done, 255 already held, else the refusal.
-pub fn number_of(answer: Answer) -> u8
-    ensures { λ r. ⌜ r ≡ answerNumber answer ⌝ }
-{
-    match answer {
-        Answer::Done => 0,
-        Answer::Held => 255,
-        Answer::Refused(r) => r,
-    }
 }

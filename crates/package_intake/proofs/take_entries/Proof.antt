@@ -42,7 +42,7 @@ ready : (c : tie.In-loop Inv-loop μ-loop) → let s = start (c .before) in Entr
 ready c = entry-ready (start (c .before) .pre) (c .before .loop .inv .1) (more c)
 
 -- the turn, from where its answer is numbered
-abbrev turn : tie.After-number-of Inv-loop μ-loop → tie.In-loop Inv-loop μ-loop
+abbrev turn : tie.After-answer-number Inv-loop μ-loop → tie.In-loop Inv-loop μ-loop
 turn c = c .before .before .before .before .before .before .before .before .before .before .before .before .before .before .before .before .before .before .before .before .before .before .before
 
 entry-count-requires : tie.Need-entry-count-requires Inv-loop μ-loop
@@ -61,7 +61,7 @@ take-entry-requires c κs = ready (c .before .before .before .before .before .be
 loop-again : tie.Need-loop-again Inv-loop μ-loop
 loop-again c =
     let i = turn (c .before) in
-    (refl, entries-next (start (i .before) .pre) (i .before .loop .inv .1) (more i) (c .before .before .before .before .before .before .before .before .before .before .before .before .before .before .before .before .take-entry .ensures) (c .before .number-of .ensures) (c .count-at .ensures))
+    (refl, entries-next (start (i .before) .pre) (i .before .loop .inv .1) (more i) (c .before .before .before .before .before .before .before .before .before .before .before .before .before .before .before .before .take-entry .ensures) (c .before .answer-number .ensures) (c .count-at .ensures))
 
 -- the tables are in form at the end too
 formed : (c : tie.After-loop Inv-loop μ-loop) → Formed (start (c .before) .args .n) (current (c .before))

@@ -15,7 +15,7 @@ use Rattle.model.specs.Form.{lengthsFit, inForm}
 use Rattle.model.specs.Refusals.{test, firstOf}
 use Rattle.model.specs.Tables.{Tables, decode}
 use Rattle.model.specs.Calls.{Reply, reply, unless, stepReply, roundOf, turn, drain}
-use Rattle.exports.specs.Numbers.{sliceReply, turnedNumber, turnedTimestamp, turnNumbers, drainedNumber, drainedTotals, drainNumbers}
+use Rattle.numbers.specs.Numbers.{sliceReply, turnedNumber, turnedTimestamp, turnNumbers, drainedNumber, drainedTotals, drainNumbers}
 
 -- ---- the slice after the stores
 

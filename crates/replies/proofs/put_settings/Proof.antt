@@ -1,14 +1,14 @@
--- `listing::put_settings` meets its contract: line by line. Assumes nothing.
+-- `replies::put_settings` meets its contract: line by line. Assumes nothing.
 use mathlib.Core.Path.{ap}
 use Prim.Native.Nat.{ℕ, _-_}
 use native.Mathlib.Omega.{arith}
 use borrow.Author.Needs.{sfits-of}
 use lib.ListN.{length}
 use Rattle.text.proofs.Pieces.{put-as}
-use Rattle.listing.specs.Listing.{linesBelow, settingOf, settingLines}
-use Rattle.listing.proofs.Below.{Below, below-none, below-next, below-all, setting-read}
-use Rattle.listing.proofs.put_settings.Statement.{statement}
-use Rattle.listing.proofs.put_settings.Tie as tie
+use Rattle.replies.specs.Replies.{linesBelow, settingOf, settingLines}
+use Rattle.replies.proofs.Below.{Below, below-none, below-next, below-all, setting-read}
+use Rattle.replies.proofs.put_settings.Statement.{statement}
+use Rattle.replies.proofs.put_settings.Tie as tie
 
 abbrev Inv-loop : tie.InvT-loop
 Inv-loop view text₀ at end₀ s₀ text end s = Below (settingOf view) at (length view) text₀ text end s

@@ -13,7 +13,7 @@ use Rattle.machine.specs.Settings.{valueIn}
 use Rattle.text.specs.Pieces.{Put}
 use Rattle.text.proofs.Pieces.{put-nothing, put-then}
 use Rattle.lines.specs.Lines.{settingLine}
-use Rattle.listing.specs.Listing.{linesBelow, settingOf}
+use Rattle.replies.specs.Replies.{linesBelow, settingOf}
 
 -- the first j of count lines are put
 pub record Below (line : ℕ → List ℕ) (at count : ℕ) (before after : List ℕ) (end j : ℕ) : Type 0 where

@@ -1,7 +1,7 @@
--- `exports::standing_number` meets its contract: the sums fit, and each arm is a case of the definition. Assumes nothing.
+-- `numbers::standing_number` meets its contract: the sums fit, and each arm is a case of the definition. Assumes nothing.
 use borrow.Author.Needs.{needs}
-use Rattle.exports.proofs.standing_number.Statement.{statement}
-use Rattle.exports.proofs.standing_number.Tie as tie
+use Rattle.numbers.proofs.standing_number.Statement.{statement}
+use Rattle.numbers.proofs.standing_number.Tie as tie
 
 returns : tie.Need-returns
 returns c = rw (c .before .standing .given .1)

@@ -1,11 +1,11 @@
--- `exports::value_number` meets its contract: a value extended to 64 bits is itself, and a refusal's sum fits. Assumes nothing.
+-- `numbers::value_number` meets its contract: a value extended to 64 bits is itself, and a refusal's sum fits. Assumes nothing.
 use borrow.Author.Needs.{needs, sfits-of}
 use mir.Syntax.{w64}
 use mir.ValLaws.{toZ-ofZ}
 use Rattle.words.proofs.Laws.{extend-fits, extend-same}
-use Rattle.exports.proofs.Numbers.{refusal-sum, refusal-sum-fits}
-use Rattle.exports.proofs.value_number.Statement.{statement}
-use Rattle.exports.proofs.value_number.Tie as tie
+use Rattle.numbers.proofs.Numbers.{refusal-sum, refusal-sum-fits}
+use Rattle.numbers.proofs.value_number.Statement.{statement}
+use Rattle.numbers.proofs.value_number.Tie as tie
 
 cast-result : tie.Need-cast-result
 cast-result c = extend-fits {z = c .before .value .given .0 .0} (sfits-of (c .known-told .given .0 .1))

@@ -28,7 +28,7 @@ use Rattle.tables.proofs.Faults.{Faultless}
 use Rattle.checker.specs.Raw.{goesOn}
 use Rattle.checker.proofs.Drains.{event-goes-on, drain-within}
 use Rattle.lines.specs.Lines.{turnLine}
-use Rattle.listing.specs.Listing.{capacity, turnLines}
+use Rattle.replies.specs.Replies.{capacity, turnLines}
 
 -- ---- the drain of tables in form
 

@@ -1,4 +1,4 @@
--- `listing::put_entries` meets its contract: line by line. Assumes nothing.
+-- `replies::put_entries` meets its contract: line by line. Assumes nothing.
 use mathlib.Core.Path.{_≡_, ap}
 use Prim.Native.Nat.{ℕ, _-_, _<_}
 use native.Mathlib.Omega.{arith}
@@ -7,10 +7,10 @@ use Rattle.text.proofs.Pieces.{put-as}
 use Rattle.model.specs.Package.{entryCount}
 use Rattle.packages.proofs.Entries.{LaidOut, laid-out, entry-within}
 use Rattle.lines.specs.Lines.{entryLine}
-use Rattle.listing.specs.Listing.{linesBelow, entryOf, entryLines}
-use Rattle.listing.proofs.Below.{Below, below-none, below-next, below-all}
-use Rattle.listing.proofs.put_entries.Statement.{statement}
-use Rattle.listing.proofs.put_entries.Tie as tie
+use Rattle.replies.specs.Replies.{linesBelow, entryOf, entryLines}
+use Rattle.replies.proofs.Below.{Below, below-none, below-next, below-all}
+use Rattle.replies.proofs.put_entries.Statement.{statement}
+use Rattle.replies.proofs.put_entries.Tie as tie
 
 abbrev Inv-loop : tie.InvT-loop
 Inv-loop bytes answers text₀ count end₀ j₀ text end j = Below (entryOf bytes answers) 0 count text₀ text end j

@@ -1,13 +1,13 @@
--- `listing::put_turns` meets its contract: the lines of the turns so far, with those of the drain of what is left, are the lines of the whole drain. Assumes nothing.
+-- `replies::put_turns` meets its contract: the lines of the turns so far, with those of the drain of what is left, are the lines of the whole drain. Assumes nothing.
 use mathlib.Core.Path.{sym, _∙_}
 use native.Mathlib.Omega.{arith}
 use Rattle.model.specs.Tables.{Tables, tables}
 use Rattle.model.proofs.Tests.{Lengths, lengths-of}
 use Rattle.tables.proofs.Faults.{Faultless}
-use Rattle.listing.specs.Listing.{capacity}
-use Rattle.listing.proofs.Turning.{turnsLeft, Turning, turning-begins, turning-goes-on, turning-short, turning-ends, turning-view}
-use Rattle.listing.proofs.put_turns.Statement.{statement}
-use Rattle.listing.proofs.put_turns.Tie as tie
+use Rattle.replies.specs.Replies.{capacity}
+use Rattle.replies.proofs.Turning.{turnsLeft, Turning, turning-begins, turning-goes-on, turning-short, turning-ends, turning-view}
+use Rattle.replies.proofs.put_turns.Statement.{statement}
+use Rattle.replies.proofs.put_turns.Tie as tie
 
 abbrev Inv-loop : tie.InvT-loop
 Inv-loop held timestamps order status₀ withdrawn lengths programs reads₀ writes₀ sources₀ seen₀ targets₀ written₀ view₀ text₀ at end₀ going₀ status reads writes sources seen targets written view text end going =

@@ -1,13 +1,13 @@
--- `exports::put_timestamp` meets its contract: each arm is a case of the definitions, and the sum fits. Assumes nothing.
+-- `numbers::put_timestamp` meets its contract: each arm is a case of the definitions, and the sum fits. Assumes nothing.
 use mathlib.Core.Path.{refl, subst}
 use Prim.Native.Nat.{_<_}
 use native.Mathlib.Omega.{arith}
 use borrow.Author.Needs.{needs}
 use Rattle.model.specs.declared.Turned.{Turned}
-use Rattle.exports.specs.Numbers.{turnedNumber}
-use Rattle.exports.proofs.Slices.{one-stored}
-use Rattle.exports.proofs.put_timestamp.Statement.{statement}
-use Rattle.exports.proofs.put_timestamp.Tie as tie
+use Rattle.numbers.specs.Numbers.{turnedNumber}
+use Rattle.numbers.proofs.Slices.{one-stored}
+use Rattle.numbers.proofs.put_timestamp.Statement.{statement}
+use Rattle.numbers.proofs.put_timestamp.Tie as tie
 
 add-result : tie.Need-add-result
 add-result c = omega (arith, subst (λ (a : Turned). turnedNumber a < 256) (c .before .answer4 .given .1) (c .before .before .before .pre .1))

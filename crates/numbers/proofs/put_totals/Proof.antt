@@ -1,9 +1,9 @@
--- `exports::put_totals` meets its contract: each arm is a case of the definitions. Assumes nothing.
+-- `numbers::put_totals` meets its contract: each arm is a case of the definitions. Assumes nothing.
 use mathlib.Core.Path.{refl}
 use borrow.Author.Needs.{needs}
-use Rattle.exports.proofs.Slices.{three-stored}
-use Rattle.exports.proofs.put_totals.Statement.{statement}
-use Rattle.exports.proofs.put_totals.Tie as tie
+use Rattle.numbers.proofs.Slices.{three-stored}
+use Rattle.numbers.proofs.put_totals.Statement.{statement}
+use Rattle.numbers.proofs.put_totals.Tie as tie
 
 returns : tie.Need-returns
 returns c =
