@@ -1,12 +1,13 @@
 //! The calls, made on the proved library and on the outside implementation, and compared.
 
+use crate::generate::{packages, Random};
 use crate::proved::calls as proved;
 use outside::calls::{self, Refusal, Standing};
 use outside::checker::{self, Totals, Turn};
 use outside::intake::{self, Taken};
-use outside::package;
+use outside::package::{self, ANSWERS};
 use outside::program::SETTINGS;
-use outside::tables::Tables;
+use outside::tables::{Tables, INFINITY};
 use std::fmt::{self, Debug};
 
 /// A call that only reads the tables, with its arguments besides N and the tables.
@@ -175,6 +176,37 @@ impl Both {
         ] {
             let _ = self.ask(query);
         }
+    }
+
+    /// Makes every call but set up, with arguments that are right and with arguments that a later
+    /// refusal turns down. All must be refused so.
+    #[track_caller]
+    pub fn assert_all_refused(&mut self, random: &mut Random, refusal: u8) {
+        let setting = random.below(SETTINGS);
+        let held = self.outside.timestamps.first().copied().unwrap_or(1);
+        for query in [
+            Query::CurrentValue(setting),
+            Query::CurrentValue(SETTINGS),
+            Query::ValueAsOf(held, setting),
+            Query::ValueAsOf(random.pick(&[0, held]), SETTINGS),
+            Query::Standing(held),
+            Query::Standing(random.pick(&[0, INFINITY])),
+            Query::PlainRun(SETTINGS),
+        ] {
+            assert_eq!(self.ask(query), Err(refusal), "{query:?} on {self:?}");
+        }
+        for timestamp in [held, 77, 0] {
+            assert_eq!(self.take_in(timestamp, &[]), Err(refusal), "{self:?}");
+            assert_eq!(self.take_in(timestamp, &[255; 9]), Err(refusal), "{self:?}");
+            assert_eq!(self.withdraw(timestamp), Err(refusal), "{self:?}");
+        }
+        for package in [&[0, 0][..], &[0, 0, 0]] {
+            let mut answers = packages::answers(random, ANSWERS);
+            let taken = self.take_in_package(package, &mut answers);
+            assert_eq!(taken, Err(refusal), "{self:?}");
+        }
+        assert_eq!(self.turn(), Err(refusal), "{self:?}");
+        assert_eq!(self.drain(), Err(refusal), "{self:?}");
     }
 
     #[track_caller]

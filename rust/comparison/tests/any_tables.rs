@@ -1,26 +1,22 @@
-//! The proved calls that alter held changes against the outside implementation, on tables with any
-//! contents.
+//! The proved calls that alter held changes against the outside implementation, on tables in form that
+//! calls need not reach.
 
 use comparison::both::Both;
 use comparison::generate::scripts::Source;
-use comparison::generate::tables::{self as random_tables, Breach, Table};
+use comparison::generate::tables as random_tables;
 use comparison::generate::{self, packages, Random};
 use comparison::reached::Reached;
 use comparison::turns::{self, TurnEvent};
 use outside::checker::{Totals, Turned};
 use outside::intake::Taken;
 use outside::package::ANSWERS;
-use outside::program::SETTINGS;
-use outside::tables::{in_form, Tables, INFINITY, MAX_CAPACITY};
+use outside::tables::{in_form, INFINITY};
 
 /// How many tables with lists unrelated to their programs are drained.
 const TABLES: usize = 6_000;
 
 /// How many of them are of any settings and values.
 const ANY_VALUES: usize = 1_500;
-
-/// How many tables are broken for each breach.
-const BROKEN: usize = 60;
 
 /// What the tests with any tables are to reach.
 #[derive(Clone, Copy, Debug, PartialEq, Eq, PartialOrd, Ord)]
@@ -35,7 +31,6 @@ enum Event {
     WithdrawRefused(u8),
     Package,
     PackageRefused(u8),
-    Broken(Breach),
 }
 
 /// Makes turns until one is idle, and a drain on the tables as they were, which must do the same.
@@ -220,100 +215,5 @@ fn changes_and_packages_taken_in_and_withdrawals_leave_the_same_tables() {
     }
     for refusal in [4, 10, 11] {
         reached.assert_at_least(TABLES / 100, Event::WithdrawRefused(refusal));
-    }
-}
-
-/// Makes every call, with arguments that are right and with arguments that a later refusal turns
-/// down. None alters a lent slice.
-#[track_caller]
-fn assert_all_refused(random: &mut Random, both: &mut Both, refusal: u8) {
-    let timestamp = both.tables().timestamps.first().copied().unwrap_or(1);
-    for timestamp in [timestamp, 77, 0] {
-        assert_eq!(both.take_in(timestamp, &[]), Err(refusal));
-        assert_eq!(both.take_in(timestamp, &[255; 9]), Err(refusal));
-        assert_eq!(both.withdraw(timestamp), Err(refusal));
-    }
-    for package in [&[0, 0][..], &[0, 0, 0]] {
-        let mut answers = packages::answers(random, ANSWERS);
-        let taken = both.take_in_package(package, &mut answers);
-        assert_eq!(taken, Err(refusal));
-    }
-    assert_eq!(both.turn(), Err(refusal));
-    assert_eq!(both.drain(), Err(refusal));
-}
-
-#[test]
-fn every_breach_of_form_is_refused() {
-    let random = &mut Random::new(generate::seed());
-    let mut reached = Reached::default();
-    for breach in Breach::ALL {
-        let mut broken = 0;
-        while broken < BROKEN {
-            let n = 1 + random.below(8);
-            let held = random_tables::held_count(random, n);
-            let mut tables = random_tables::in_form(random, n, held);
-            if breach.make(random, &mut tables).is_some() {
-                assert_all_refused(random, &mut Both::new(n, tables), 2);
-                reached.count(Event::Broken(breach));
-                broken += 1;
-            }
-        }
-    }
-    reached.print();
-    for breach in Breach::ALL {
-        reached.assert_at_least(BROKEN, Event::Broken(breach));
-    }
-}
-
-/// Each table alone shorter, longer and empty, with contents that are in form and with random ones.
-#[test]
-fn every_wrong_length_is_refused() {
-    let random = &mut Random::new(generate::seed());
-    let mut refused = 0;
-    for n in [1, 5, 64] {
-        let in_form = random_tables::in_form(random, n, n / 2);
-        let mut filled = in_form.clone();
-        random_tables::fill(random, &mut filled);
-        for mut tables in [in_form, filled] {
-            for table in Table::ALL {
-                let right = table.length(&mut tables);
-                for length in [0, right - 1, right + 1, 2 * right] {
-                    let mut tables = tables.clone();
-                    table.resize(&mut tables, length);
-                    assert_all_refused(random, &mut Both::new(n, tables), 1);
-                    refused += 1;
-                }
-            }
-            let mut both = Both::new(n, tables);
-            for length in [0, 1, ANSWERS - 1, ANSWERS + 1, SETTINGS] {
-                let mut answers = packages::answers(random, length);
-                let taken = both.take_in_package(&[0, 0], &mut answers);
-                assert_eq!(taken, Err(1));
-            }
-        }
-    }
-    println!("refused {refused} lengths");
-    assert_eq!(refused, 3 * 2 * 14 * 4);
-}
-
-#[test]
-fn capacities_other_than_1_to_4096_are_refused() {
-    let random = &mut Random::new(generate::seed());
-    for n in [0, MAX_CAPACITY + 1, 65_536] {
-        assert_all_refused(random, &mut Both::new(n, Tables::new(n)), 1);
-    }
-    for n in [1, MAX_CAPACITY] {
-        // 256 × N and 32 × N may wrap to the right length.
-        for other in [
-            0,
-            n - 1,
-            n + 1,
-            65_536 + n,
-            1 << 32 | n,
-            1 << 56 | n,
-            1 << 59 | n,
-        ] {
-            assert_all_refused(random, &mut Both::new(other, Tables::new(n)), 1);
-        }
     }
 }

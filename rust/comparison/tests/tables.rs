@@ -1,9 +1,11 @@
-//! The proved calls against the outside implementation, on tables.
+//! The proved calls that only read against the outside implementation, on tables with any contents, and
+//! every call on tables that are refused.
 
 use comparison::both::{Answer, Both, Query};
 use comparison::generate::tables::{self as random_tables, Breach, Table};
-use comparison::generate::{self, Random};
+use comparison::generate::{self, packages, Random};
 use comparison::reached::Reached;
+use outside::package::ANSWERS;
 use outside::program::{self, SETTINGS};
 use outside::tables::{in_form, Status, Tables, INFINITY, LIST_ENTRIES, MAX_CAPACITY};
 
@@ -20,25 +22,6 @@ const BROKEN: usize = 100;
 #[track_caller]
 fn set_up(both: &Both) -> Result<(), u8> {
     both.clone().set_up()
-}
-
-/// Makes every query, with arguments that are right and with arguments that a later refusal turns
-/// down.
-#[track_caller]
-fn assert_all_refused(random: &mut Random, both: &Both, refusal: u8) {
-    let setting = random.below(SETTINGS);
-    let timestamp = both.tables().timestamps.first().copied().unwrap_or(1);
-    for query in [
-        Query::CurrentValue(setting),
-        Query::CurrentValue(SETTINGS),
-        Query::ValueAsOf(timestamp, setting),
-        Query::ValueAsOf(random.pick(&[0, timestamp]), SETTINGS),
-        Query::Standing(timestamp),
-        Query::Standing(random.pick(&[0, INFINITY])),
-        Query::PlainRun(SETTINGS),
-    ] {
-        assert_eq!(both.ask(query), Err(refusal), "{query:?} on {both:?}");
-    }
 }
 
 /// The held count, or the capacity where it is above that.
@@ -317,8 +300,8 @@ fn every_breach_of_form_is_refused() {
     let mut reached = Reached::default();
     for breach in Breach::ALL {
         for _ in 0..BROKEN {
-            let both = broken(random, breach);
-            assert_all_refused(random, &both, 2);
+            let mut both = broken(random, breach);
+            both.assert_all_refused(random, 2);
             assert_eq!(set_up(&both), Ok(()));
             reached.count(Event::Broken(breach));
         }
@@ -464,15 +447,20 @@ fn every_wrong_length_is_refused() {
                 for length in [0, right - 1, right + 1, 2 * right] {
                     let mut tables = tables.clone();
                     table.resize(&mut tables, length);
-                    let both = Both::new(n, tables);
-                    assert_all_refused(random, &both, 1);
+                    let mut both = Both::new(n, tables);
+                    both.assert_all_refused(random, 1);
                     assert_eq!(set_up(&both), Err(1), "{table:?} of {length}");
                     refused += 1;
                 }
             }
+            let mut both = Both::new(n, tables);
             for length in [0, 1, SETTINGS - 1, SETTINGS + 1, 2 * SETTINGS] {
-                let both = Both::new(n, tables.clone());
                 assert_eq!(both.ask(Query::PlainRun(length)), Err(1));
+            }
+            for length in [0, 1, ANSWERS - 1, ANSWERS + 1, SETTINGS] {
+                let mut answers = packages::answers(random, length);
+                let taken = both.take_in_package(&[0, 0], &mut answers);
+                assert_eq!(taken, Err(1));
             }
         }
     }
@@ -487,8 +475,8 @@ fn capacities_other_than_1_to_4096_are_refused() {
         for held in [0, 1] {
             let mut tables = Tables::new(n);
             tables.held[0] = held;
-            let both = Both::new(n, tables);
-            assert_all_refused(random, &both, 1);
+            let mut both = Both::new(n, tables);
+            both.assert_all_refused(random, 1);
             assert_eq!(set_up(&both), Err(1));
         }
     }
@@ -506,8 +494,8 @@ fn capacities_other_than_1_to_4096_are_refused() {
             1 << 56 | n,
             1 << 59 | n,
         ] {
-            let both = Both::new(other, Tables::new(n));
-            assert_all_refused(random, &both, 1);
+            let mut both = Both::new(other, Tables::new(n));
+            both.assert_all_refused(random, 1);
             assert_eq!(set_up(&both), Err(1));
         }
     }
