@@ -192,23 +192,29 @@ fn a_word_may_be_too_many() {
     assert_eq!(message("turn # why"), r##""#" is a word too many"##);
 }
 
+/// Panics unless every line with this word for a timestamp or a setting has the error for it.
+#[track_caller]
+fn assert_numbers_refused(word: &str, error: impl Fn(&'static str) -> Error) {
+    for (argument, line) in [
+        ("TS", format!("take_in {word} -")),
+        ("TS", format!("withdraw {word}")),
+        ("TS", format!("value_as_of {word} 34")),
+        ("TS", format!("standing {word}")),
+        ("S", format!("current {word}")),
+        ("S", format!("value_as_of 15 {word}")),
+    ] {
+        assert_eq!(read(line.as_bytes()), Err(error(argument)), "{line:?}");
+    }
+}
+
 #[test]
 fn numbers_have_decimal_digits_alone() {
     for word in [
         "-1", "+1", "1.0", "1e3", "0x10", "1_000", "1,000", "ten", "-", "١",
     ] {
-        let error = |argument| Err(Error::NotANumber(argument, word.to_string()));
-        for line in [
-            format!("take_in {word} -"),
-            format!("withdraw {word}"),
-            format!("value_as_of {word} 34"),
-            format!("standing {word}"),
-        ] {
-            assert_eq!(read(line.as_bytes()), error("TS"), "{line:?}");
-        }
-        for line in [format!("current {word}"), format!("value_as_of 15 {word}")] {
-            assert_eq!(read(line.as_bytes()), error("S"), "{line:?}");
-        }
+        assert_numbers_refused(word, |argument| {
+            Error::NotANumber(argument, word.to_string())
+        });
     }
     assert_eq!(
         message("withdraw -1"),
@@ -219,20 +225,10 @@ fn numbers_have_decimal_digits_alone() {
 #[test]
 fn numbers_may_be_too_large() {
     let word = "18446744073709551616";
-    let error = |argument| Err(Error::TooLarge(argument, word.to_string()));
-    for line in [
-        format!("take_in {word} -"),
-        format!("withdraw {word}"),
-        format!("value_as_of {word} 34"),
-        format!("standing {word}"),
-    ] {
-        assert_eq!(read(line.as_bytes()), error("TS"), "{line:?}");
-    }
-    for line in [format!("current {word}"), format!("value_as_of 15 {word}")] {
-        assert_eq!(read(line.as_bytes()), error("S"), "{line:?}");
-    }
+    let error = |argument| Error::TooLarge(argument, word.to_string());
+    assert_numbers_refused(word, error);
     let line = format!("take_in_package 0000 len{word}");
-    assert_eq!(read(line.as_bytes()), error("the L of lenL"));
+    assert_eq!(read(line.as_bytes()), Err(error("the L of lenL")));
     assert_eq!(
         message(&format!("current {word}")),
         r#"S is too large: "18446744073709551616""#
