@@ -13,9 +13,9 @@ use Rattle.machine.specs.Run.{run}
 use Rattle.run_record.specs.declared.Run.{Run}
 use Rattle.run_record.specs.Record.{Lists, Ran}
 use Rattle.model.proofs.Entries.{entries-take}
+use Rattle.model.specs.Tables.{programIn, listIn}
 use Rattle.zeros.proofs.Parts.{used-part}
-use Rattle.search.specs.Raw.{writesIn}
-use Rattle.acts.specs.Raw.{programIn, Runnable}
+use Rattle.acts.specs.Raw.{Runnable}
 
 -- a part of a table, as it is lent
 abbrev pub part : {A : Type 0} → ℕ → ℕ → ℕ → List A → List A
@@ -29,7 +29,7 @@ module _ (reads sources : List ℕ) (seen : List ℤ) (place : ℕ) (h : 32 * pl
   pub same-part : length (part 32 place (getD reads place 0) sources) ≡ length (part 32 place (getD reads place 0) seen)
   same-part = part-length 32 place (getD reads place 0) sources h ∙ sym (part-length 32 place (getD reads place 0) seen q)
 
-  pub part-entries : entries (length (part 32 place (getD reads place 0) sources)) (part 32 place (getD reads place 0) sources) (part 32 place (getD reads place 0) seen) ≡ writesIn reads sources seen place
+  pub part-entries : entries (length (part 32 place (getD reads place 0) sources)) (part 32 place (getD reads place 0) sources) (part 32 place (getD reads place 0) seen) ≡ listIn reads sources seen place
   part-entries =
       let size = part-length 32 place (getD reads place 0) sources h in
       let settings = used-part 32 place (getD reads place 0) sources in

@@ -8,9 +8,8 @@ use lib.IntN.{ℤ}
 use lib.ListN.{length, getD}
 use Rattle.machine.specs.Form.{wellFormed}
 use Rattle.model.specs.History.{allHold}
-use Rattle.model.specs.Tables.{slots}
-use Rattle.search.specs.Raw.{Placed, writesIn}
-use Rattle.search.specs.Raw as search
+use Rattle.model.specs.Tables.{programIn, listIn}
+use Rattle.search.specs.Searches.{PlacesWithin, WriteLists}
 use Rattle.machine.specs.Run.{Outcome}
 use Rattle.run_record.specs.declared.Run.{Run}
 use Rattle.run_record.specs.Record.{Lists, Sized, Ran}
@@ -22,14 +21,10 @@ use Rattle.acts.specs.declared.Act.the-variants as act
 unfoldable pub actOf : ℕ → ℕ → Bool → Act
 actOf flag status holds = cond (eqb flag 0) (cond (eqb status 2 && holds) act.Stand act.Run) act.Clear
 
--- the program of a place
-abbrev pub programIn : List ℕ → List ℕ → ℕ → List ℕ
-programIn lengths programs place = slots 256 place (8 * getD lengths place 0) programs
-
 -- does every value seen at a place hold as of a position
 abbrev pub seenHold : List ℕ → List ℕ → List ℤ → List ℕ → List ℕ → List ℕ → List ℤ → ℕ → Bool
 seenHold reads sources seen order writes targets written k =
-    allHold (writesIn reads sources seen (getD order k 0)) (valuesBelow order writes targets written k)
+    allHold (listIn reads sources seen (getD order k 0)) (valuesBelow order writes targets written k)
 
 -- what the code relies on at a position of the order list: its place has slots in the tables
 pub record Positioned (k count : ℕ) (order : List ℕ) (places : ℕ) : Type 0 where
@@ -48,8 +43,8 @@ pub record Decidable (k count : ℕ) (order status withdrawn reads sources : Lis
   pub source-slots : length sources ≡ 32 * length writes
   pub seen-slots : length seen ≡ 32 * length writes
   pub short : getD reads (getD order k 0) 0 ≤ 32
-  pub placed : Placed k order (length writes)
-  pub listed : search.Listed writes targets written
+  pub placed : PlacesWithin k order (length writes)
+  pub listed : WriteLists writes targets written
 
 -- what the run relies on
 pub record Runnable (k : ℕ) (order lengths programs writes targets : List ℕ) (written : List ℤ) : Type 0 where
@@ -59,8 +54,8 @@ pub record Runnable (k : ℕ) (order lengths programs writes targets : List ℕ)
   pub blocks : length programs ≡ 256 * length lengths
   pub short : getD lengths (getD order k 0) 0 ≤ 32
   pub formed : wellFormed (programIn lengths programs (getD order k 0)) ≡ true
-  pub placed : Placed k order (length writes)
-  pub listed : search.Listed writes targets written
+  pub placed : PlacesWithin k order (length writes)
+  pub listed : WriteLists writes targets written
 
 -- the record and the arrays of new lists: none where the change is cleared, and those of its run where it runs
 pub record Made (a : Act) (r : Run) (l : Lists) (o : Outcome) : Type 0 where

@@ -8,6 +8,7 @@ ghost use Rattle.machine.specs.Run.{run};
 ghost use Rattle.run_record.specs.Record.{lists, Sized, Ran};
 ghost use Rattle.execution.specs.Raw.{valuesBelow};
 ghost use Rattle.acts.specs.Raw as raw;
+ghost use Rattle.model.specs.Tables.{programIn};
 
 // What a turn does with its change.
 pub enum Act {
@@ -71,7 +72,7 @@ fn run_change(
     new_written: &mut [i32; 32],
 ) -> Run
     requires { ⌜ raw.Runnable k (now order) (now lengths) (now programs) (now writes) (now targets) (now written) × Sized (lists (now «new_sources») (now «new_seen») (now «new_targets») (now «new_written»)) ⌝ }
-    ensures { λ r. ⌜ Ran r (lists (now («new_sources» .exit)) (now («new_seen» .exit)) (now («new_targets» .exit)) (now («new_written» .exit))) (run (valuesBelow (now (order .entry)) (now (writes .entry)) (now (targets .entry)) (now (written .entry)) k) (raw.programIn (now (lengths .entry)) (now (programs .entry)) (getD (now (order .entry)) k 0))) ⌝ }
+    ensures { λ r. ⌜ Ran r (lists (now («new_sources» .exit)) (now («new_seen» .exit)) (now («new_targets» .exit)) (now («new_written» .exit))) (run (valuesBelow (now (order .entry)) (now (writes .entry)) (now (targets .entry)) (now (written .entry)) k) (programIn (now (lengths .entry)) (now (programs .entry)) (getD (now (order .entry)) k 0))) ⌝ }
 {
     let place = order[k] as usize;
     let begin = 256 * place;
@@ -106,7 +107,7 @@ pub fn new_lists(
     new_written: &mut [i32; 32],
 ) -> Run
     requires { ⌜ raw.Runnable k (now order) (now lengths) (now programs) (now writes) (now targets) (now written) × Sized (lists (now «new_sources») (now «new_seen») (now «new_targets») (now «new_written»)) ⌝ }
-    ensures { λ r. ⌜ raw.Made act r (lists (now («new_sources» .exit)) (now («new_seen» .exit)) (now («new_targets» .exit)) (now («new_written» .exit))) (run (valuesBelow (now (order .entry)) (now (writes .entry)) (now (targets .entry)) (now (written .entry)) k) (raw.programIn (now (lengths .entry)) (now (programs .entry)) (getD (now (order .entry)) k 0))) ⌝ }
+    ensures { λ r. ⌜ raw.Made act r (lists (now («new_sources» .exit)) (now («new_seen» .exit)) (now («new_targets» .exit)) (now («new_written» .exit))) (run (valuesBelow (now (order .entry)) (now (writes .entry)) (now (targets .entry)) (now (written .entry)) k) (programIn (now (lengths .entry)) (now (programs .entry)) (getD (now (order .entry)) k 0))) ⌝ }
 {
     match act {
         Act::Run => run_change(

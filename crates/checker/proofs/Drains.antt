@@ -15,19 +15,18 @@ use Rattle.model.specs.Figure.{Event, ran, stood, cleared, Step, idle, turned, 
 use Rattle.model.specs.Drain.{Drain, drainNone, drainMore, drainStep, drainFor, drainHistory, total, totals}
 use Rattle.model.specs.Cabinet.{Cabinet, historyOf, withHistory}
 use Rattle.model.specs.Tables.{Tables, encode, decode}
-use Rattle.model.specs.Form.{lengthsFit, inForm}
 use Rattle.model.specs.Calls.{Reply, reply, eventAnswer, stepReply, roundOf, drainOf}
 use Rattle.model.specs.Sound.{Sound}
-use Rattle.model.proofs.Cabinet.{withHistory-history}
+use Rattle.model.proofs.Cabinet.{withHistory-history, same-history, history-again}
 use Rattle.model.proofs.Encode.{lengths-encode}
 use Rattle.model.proofs.Figure.{drain-idle, drain-next}
-use Rattle.model.proofs.Form.{encode-lengths, encode-form, decode-sound, encode-decode}
 use Rattle.model.proofs.Keeps.{StepKeeps, Keeps, keeps-length, round-keeps, drain-keeps, round-sound}
 use Rattle.model.proofs.Order.{changesAt-length}
 use Rattle.model.proofs.Tables.{decode-encode}
+use Rattle.model.specs.Form.{Formed}
+use Rattle.model.proofs.Form.{facts, encode-formed}
 use Rattle.turns.specs.Raw as turns
 use Rattle.checker.specs.Raw.{countedIn, goesOn, drained}
-use Rattle.checker.proofs.Cabinets.{same-history, history-again}
 
 -- ---- totals
 
@@ -88,17 +87,17 @@ turnsLeft T going = cond going (suc (length (drainOf (decode T) .events))) 0
 
 -- n counts the turns so far: the drain of what is left is the rest of the whole drain
 pub record Draining (T₀ T : Tables) (n : Totals) (going : Bool) : Type 0 where
-  pub formed : turns.Formed T
+  pub formed : Formed (length (T .order)) T
   pub rest : drained T .tables ≡ drained T₀ .tables
   pub counts : sums n (drained T .answer) ≡ drained T₀ .answer
   pub ended : going ≡ false → roundOf (decode T) ≡ idle
 
-module _ (T : Tables) (g : turns.Formed T) where
+module _ (T : Tables) (g : Formed (length (T .order)) T) where
   abbrev capacity : ℕ
   capacity = length (T .order)
 
   sound : Sound capacity (decode T)
-  sound = decode-sound capacity T (g .0) (g .1)
+  sound = facts g .sound
 
   -- no turn yet
   pub drain-begins : Draining T T (three 0 0 0) true
@@ -108,7 +107,7 @@ module _ (T : Tables) (g : turns.Formed T) where
   idle-drained : roundOf (decode T) ≡ idle → drained T ≡ reply (three 0 0 0) T
   idle-drained q =
       ap (λ (d : Drain). reply (totals (d .events)) (encode capacity (withHistory (decode T) (d .history) (d .view)))) (drain-idle start (historyOf (decode T)) (decode T .view) q)
-      ∙ ap (reply (three 0 0 0)) (ap (encode capacity) (same-history (decode T)) ∙ encode-decode capacity T (g .0) (g .1))
+      ∙ ap (reply (three 0 0 0)) (ap (encode capacity) (same-history (decode T)) ∙ facts g .laid)
 
   -- the drain after a turn is the rest of the drain before it
   module _ {h : History} {view : List ℤ} {e : Event} (q : roundOf (decode T) ≡ turned h view e) where
@@ -127,8 +126,8 @@ module _ (T : Tables) (g : turns.Formed T) where
     left-capacity : length (left .order) ≡ capacity
     left-capacity = lengths-encode capacity next next-sound .order
 
-    left-formed : turns.Formed left
-    left-formed = subst (λ (m : ℕ). (lengthsFit m left ≡ true) × (inForm m left ≡ true)) (sym left-capacity) (encode-lengths capacity next next-sound, encode-form capacity next next-sound)
+    left-formed : Formed (length (left .order)) left
+    left-formed = subst (λ (m : ℕ). Formed m left) (sym left-capacity) (encode-formed next-sound)
 
     drain-left : drainOf (decode left) ≡ drainHistory start h view
     drain-left =
@@ -180,7 +179,7 @@ module _ (T : Tables) (g : turns.Formed T) where
         ap₂ reply (sym (sums-none n) ∙ ap (λ (r : Reply Totals). sums n (r .answer)) (sym done) ∙ k .counts) (ap (λ (r : Reply Totals). r .tables) (sym done) ∙ k .rest)
 
 -- the totals so far are within the capacity
-pub totals-small : {T₀ T : Tables} {n : Totals} {going : Bool} → turns.Formed T₀ → Draining T₀ T n going → (n .ran ≤ 4096) × (n .stood ≤ 4096) × (n .cleared ≤ 4096)
+pub totals-small : {T₀ T : Tables} {n : Totals} {going : Bool} → Formed (length (T₀ .order)) T₀ → Draining T₀ T n going → (n .ran ≤ 4096) × (n .stood ≤ 4096) × (n .cleared ≤ 4096)
 unfolding drainHistory
 totals-small {T₀} {T} {n} g k =
     let c = decode T₀ in

@@ -1,3 +1,2 @@
-pub mod Cabinets
 pub mod Drains
 pub mod Outcomes

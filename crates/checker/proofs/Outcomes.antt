@@ -1,6 +1,5 @@
 -- The calls turn and drain, on tables: a law for each outcome.
 use mathlib.Core.Path.{_≡_, sym, ap, subst, _∙_}
-use mathlib.Core.Bool.{true}
 use mathlib.Core.List.{[]}
 use Prim.Native.Nat.{ℕ}
 use borrow.Author.Tests.{ne-eqb}
@@ -12,10 +11,11 @@ use Rattle.model.specs.declared.Drained.the-variants as drain-answer
 use Rattle.model.specs.Drain.{totals}
 use Rattle.model.specs.Cabinet.{withHistory}
 use Rattle.model.specs.Tables.{Tables, encode, decode}
-use Rattle.model.specs.Form.{lengthsFit, inForm}
 use Rattle.model.specs.Calls.{Reply, reply, stepReply, roundOf, turn, drainOf, drain}
-use Rattle.model.proofs.Tests.{lengths-of}
-use Rattle.tables.proofs.Faults.{faultOf, Faultless, faulty}
+use Rattle.model.specs.Form.{Formed}
+use Rattle.model.proofs.Form.{facts}
+use Rattle.model.specs.Refusals.{faultOf}
+use Rattle.tables.proofs.Faults.{faulty}
 use Rattle.turns.specs.Raw as turns
 use Rattle.checker.specs.Raw.{drained}
 
@@ -28,21 +28,21 @@ module _ (n : ℕ) (T : Tables) where
   unfolding drain
   drain-fault e f = rw (faulty n T e [] f, ne-eqb _ 0 f)
 
-  module _ (g : Faultless n T) where
+  module _ (g : Formed n T) where
     capacity : length (T .order) ≡ n
-    capacity = lengths-of n T (g .0) .order
+    capacity = facts g .lengths .order
 
     -- what `turn_once` and `turn_all` rely on
-    pub formed : turns.Formed T
-    formed = subst (λ (m : ℕ). (lengthsFit m T ≡ true) × (inForm m T ≡ true)) (sym capacity) g
+    pub formed : Formed (length (T .order)) T
+    formed = subst (λ (m : ℕ). Formed m T) (sym capacity) g
 
     pub turn-done : {a : Turned} {U : Tables} → reply a U ≡ turns.turned T → reply a U ≡ turn n T
     unfolding turn turns.turned
-    turn-done e = rw (g .0, g .1) (e ∙ ap (λ (m : ℕ). stepReply m T (decode T) (roundOf (decode T))) capacity)
+    turn-done e = rw (g .lengths, g .form) (e ∙ ap (λ (m : ℕ). stepReply m T (decode T) (roundOf (decode T))) capacity)
 
     pub drain-done : {t : Totals} {U : Tables} → reply t U ≡ drained T → reply (drain-answer.Counted t) U ≡ drain n T
     unfolding drain
     drain-done e =
-        rw (g .0, g .1)
+        rw (g .lengths, g .form)
         (ap (λ (r : Reply Totals). reply (drain-answer.Counted (r .answer)) (r .tables)) e
         ∙ ap (λ (m : ℕ). reply (drain-answer.Counted (totals (drainOf (decode T) .events))) (encode m (withHistory (decode T) (drainOf (decode T) .history) (drainOf (decode T) .view)))) capacity)

@@ -6,9 +6,10 @@ use tables::form::fault;
 use turns::turn_once;
 ghost use mathlib.Core.Path.{_≡_};
 ghost use Prim.Native.Nat.{_≤_};
+ghost use lib.ListN.{length};
 ghost use Rattle.model.specs.Tables.{tables};
 ghost use Rattle.model.specs.Calls.{reply, turn, drain};
-ghost use Rattle.turns.specs.Raw.{Formed};
+ghost use Rattle.model.specs.Form.{Formed};
 ghost use Rattle.checker.specs.Raw.{countedIn, goesOn, drained};
 
 // One turn: the answer and the tables after one round of the Checker (Figure 1), with document 01's additions.
@@ -128,7 +129,7 @@ fn turn_all(
     written: &mut [i32],
     view: &mut [i32],
 ) -> Totals
-    requires { ⌜ Formed (tables (now held) (now timestamps) (now order) (now status) (now withdrawn) (now lengths) (now programs) (now reads) (now writes) (now sources) (now seen) (now targets) (now written) (now view)) ⌝ }
+    requires { ⌜ Formed (length (now order)) (tables (now held) (now timestamps) (now order) (now status) (now withdrawn) (now lengths) (now programs) (now reads) (now writes) (now sources) (now seen) (now targets) (now written) (now view)) ⌝ }
     ensures { λ r. ⌜ reply r (tables (now (held .entry)) (now (timestamps .entry)) (now (order .entry)) (now (status .exit)) (now (withdrawn .entry)) (now (lengths .entry)) (now (programs .entry)) (now (reads .exit)) (now (writes .exit)) (now (sources .exit)) (now (seen .exit)) (now (targets .exit)) (now (written .exit)) (now (view .exit))) ≡ drained (tables (now (held .entry)) (now (timestamps .entry)) (now (order .entry)) (now (status .entry)) (now (withdrawn .entry)) (now (lengths .entry)) (now (programs .entry)) (now (reads .entry)) (now (writes .entry)) (now (sources .entry)) (now (seen .entry)) (now (targets .entry)) (now (written .entry)) (now (view .entry))) ⌝ }
 {
     let mut totals = Totals {

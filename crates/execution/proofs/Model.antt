@@ -3,7 +3,7 @@ use mathlib.Core.Path.{_≡_, refl, sym, ap, ap₂, fun-ext, _∙_}
 use mathlib.Core.Bool.{true, false, not}
 use mathlib.Core.List.{List, [], _∷_}
 use mathlib.Core.Logic.{_⊎_, inl, inr}
-use mathlib.Core.Option.{Option, none, some}
+use mathlib.Core.Option.{none, some}
 use Prim.Native.Nat.{ℕ, zero, suc, _+_, _*_, _≤_, _<_}
 use native.Mathlib.Omega.{arith}
 use lib.Dec.{eqb}
@@ -15,19 +15,18 @@ use Rattle.machine.specs.Form.{wellFormed}
 use Rattle.machine.proofs.Cases.{true-is-not-false}
 use Rattle.model.specs.History.{start, Status, New, Valid, Invalid, Lists, Change, program, status, lists, History, afterAll}
 use Rattle.model.specs.Cabinet.{blank}
-use Rattle.model.specs.Tables.{Tables, statusNumber, settingsOf, heldCount, slots, programAt, readsAt, encode, decode}
-use Rattle.model.specs.Form.{lengthsFit, inForm}
+use Rattle.model.specs.Tables.{Tables, statusNumber, settingsOf, heldCount, slots, programAt, readsAt, decode}
 use Rattle.model.specs.Figure.{idle}
 use Rattle.model.specs.Walk.{differs, walk}
-use Rattle.model.specs.Sound.{ChangeSound, Sound}
+use Rattle.model.specs.Sound.{ChangeSound}
 use Rattle.model.proofs.Entries.{settings-entries}
 use Rattle.model.proofs.Figure.{AllValid}
-use Rattle.model.proofs.Form.{decode-sound, encode-decode}
 use Rattle.model.proofs.Tables.{length-short, sound-at, status-at, program-back, reads-back}
-use Rattle.model.proofs.Tests.{Lengths, FormTests, lengths-of, form-of}
-use Rattle.search.specs.Raw.{Placed}
+use Rattle.model.specs.Form.{Formed}
+use Rattle.model.proofs.Form.{facts}
+use Rattle.search.specs.Searches.{PlacesWithin}
 use Rattle.search.proofs.Model.{historyIn, held-changes, history-length, by-place, wrote, after-below}
-use Rattle.execution.specs.Raw.{isWaiting, waitingOf, valuesBelow, oldValues, newValues, markedLive, markedValues}
+use Rattle.execution.specs.Raw.{isWaiting, valuesBelow, oldValues, newValues, markedLive, markedValues, waitingIn}
 use Rattle.execution.proofs.First.{first-none, first-some}
 use Rattle.execution.proofs.Marks.{marked-live, marked-values}
 use Rattle.execution.proofs.Passes.{passes, walk-past, walk-valid, all-valid}
@@ -55,9 +54,6 @@ module _ (count : ℕ) (settings : List ℕ) (values : List ℤ) (b : count ≤ 
   new-below d = rw new-part (settings-below (entries count settings values) d)
 
 -- ---- searches in some tables
-
-abbrev pub waitingIn : Tables → Option ℕ
-waitingIn T = waitingOf (T .order) (T .status) (heldCount T)
 
 -- the values as of a position, by the tables and by the history
 abbrev pub belowIn : Tables → ℕ → Environment
@@ -90,41 +86,29 @@ pub record Waits (h : History) (k : ℕ) : Type 0 where
   pub before : AllValid (take k h)
   pub here : (status (getD h k blank) ≡ New) ⊎ (status (getD h k blank) ≡ Invalid)
 
-module _ (n : ℕ) (T : Tables) (e : lengthsFit n T ≡ true) (q : inForm n T ≡ true) where
-  lengths : Lengths n T
-  lengths = lengths-of n T e
-
-  form : FormTests n T
-  form = form-of n T q
-
-  sound : Sound n (decode T)
-  sound = decode-sound n T e q
-
-  laid : encode n (decode T) ≡ T
-  laid = encode-decode n T e q
-
+module _ {n : ℕ} {T : Tables} (g : Formed n T) where
   -- ---- the change whose turn it is
 
   -- for `waiting`
-  pub placed-status : Placed (heldCount T) (T .order) (length (T .status))
-  placed-status = record { long = omega (arith, lengths .order, form .small); below = λ k h. omega (arith, form .places k h, lengths .status, form .small) }
+  pub placed-status : PlacesWithin (heldCount T) (T .order) (length (T .status))
+  placed-status = record { long = omega (arith, facts g .lengths .order, facts g .form .small); below = λ k h. omega (arith, facts g .form .places k h, facts g .lengths .status, facts g .form .small) }
 
   pub status-of : (k : ℕ) → k < heldCount T → getD (T .status) (getD (T .order) k 0) 0 ≡ statusNumber (status (getD (historyIn T) k blank))
   status-of k h =
-      ap (λ (U : Tables). getD (U .status) (getD (T .order) k 0) 0) (sym laid)
+      ap (λ (U : Tables). getD (U .status) (getD (T .order) k 0) 0) (sym (facts g .laid))
       ∙ status-at n (decode T) (getD (T .order) k 0)
-      ∙ ap (λ (c : Change). statusNumber (status c)) (by-place n T e q k h)
+      ∙ ap (λ (c : Change). statusNumber (status c)) (by-place g k h)
 
   passed-valid : (k : ℕ) → k < heldCount T → isWaiting (T .order) (T .status) k ≡ false → status (getD (historyIn T) k blank) ≡ Valid
   passed-valid k h t = number-valid _ (rw (status-of k h) at t)
 
   -- the changes below a position at which none waits
   valid-below : (k : ℕ) → k ≤ heldCount T → ((j : ℕ) → j < k → isWaiting (T .order) (T .status) j ≡ false) → AllValid (take k (historyIn T))
-  valid-below k h t = all-valid (historyIn T) k (omega (arith, history-length n T e q)) (λ j l. passed-valid j (omega arith) (t j l))
+  valid-below k h t = all-valid (historyIn T) k (omega (arith, history-length g)) (λ j l. passed-valid j (omega arith) (t j l))
 
   -- none waits: every change is Valid, and there is no turn
   pub waiting-none : waitingIn T ≡ none → AllValid (historyIn T)
-  waiting-none w = rw (take-all (heldCount T) (historyIn T) (omega (arith, history-length n T e q))) at (valid-below (heldCount T) (omega arith) (first-none (isWaiting (T .order) (T .status)) (heldCount T) w))
+  waiting-none w = rw (take-all (heldCount T) (historyIn T) (omega (arith, history-length g))) at (valid-below (heldCount T) (omega arith) (first-none (isWaiting (T .order) (T .status)) (heldCount T) w))
 
   pub walk-none : waitingIn T ≡ none → (env : Environment) (view : List ℤ) → walk env view (historyIn T) ≡ idle
   walk-none w env view = walk-valid env view (historyIn T) (waiting-none w)
@@ -141,13 +125,13 @@ module _ (n : ℕ) (T : Tables) (e : lengthsFit n T ≡ true) (q : inForm n T �
     -- the turn is that of the change at the position, on the settings that the changes below it leave
     pub walk-some : (env : Environment) (view : List ℤ) → walk env view (historyIn T) ≡ passes (take k (historyIn T)) (walk (afterAll (take k (historyIn T)) env) view (getD (historyIn T) k blank ∷ drop (suc k) (historyIn T)))
     walk-some env view =
-        ap (walk env view) (split-at (historyIn T) k blank (omega (arith, waiting-held, history-length n T e q)))
+        ap (walk env view) (split-at (historyIn T) k blank (omega (arith, waiting-held, history-length g)))
         ∙ walk-past env view (take k (historyIn T)) (getD (historyIn T) k blank ∷ drop (suc k) (historyIn T)) (waiting-some .before)
 
   -- ---- the values as of a position
 
   pub values-below : (k : ℕ) → k ≤ heldCount T → belowIn T k ≡ uptoIn T k
-  values-below k h = fun-ext (λ s. sym (after-below n T e q start s k h))
+  values-below k h = fun-ext (λ s. sym (after-below g start s k h))
 
   -- ---- the change at a position
 
@@ -159,20 +143,20 @@ module _ (n : ℕ) (T : Tables) (e : lengthsFit n T ≡ true) (q : inForm n T �
     here = getD (historyIn T) k blank
 
     place-held : place < length (decode T .changes)
-    place-held = omega (arith, form .places k h, held-changes n T e q)
+    place-held = omega (arith, facts g .form .places k h, held-changes g)
 
     place-room : 32 * place + 32 ≤ 32 * n
-    place-room = omega (arith, form .places k h, form .small)
+    place-room = omega (arith, facts g .form .places k h, facts g .form .small)
 
     here-sound : ChangeSound here
-    here-sound = rw (by-place n T e q k h) at (sound-at (decode T .changes) place (sound .each) place-held)
+    here-sound = rw (by-place g k h) at (sound-at (decode T .changes) place (facts g .sound .each) place-held)
 
     -- for `run_at`: its program
     pub program-here : programAt T place ≡ program here
     program-here =
-        ap (λ (U : Tables). programAt U place) (sym laid)
-        ∙ program-back n (decode T) sound place place-held
-        ∙ ap program (by-place n T e q k h)
+        ap (λ (U : Tables). programAt U place) (sym (facts g .laid))
+        ∙ program-back n (decode T) (facts g .sound) place place-held
+        ∙ ap program (by-place g k h)
 
     pub program-size : length (program here) ≤ 256
     program-size = length-short (program here) (here-sound .sized)
@@ -183,15 +167,15 @@ module _ (n : ℕ) (T : Tables) (e : lengthsFit n T ≡ true) (q : inForm n T �
     -- for `seen_hold`: its reads
     pub reads-here : readsAt T place ≡ lists here .reads
     reads-here =
-        ap (λ (U : Tables). readsAt U place) (sym laid)
-        ∙ reads-back n (decode T) sound place place-held
-        ∙ ap (λ (c : Change). lists c .reads) (by-place n T e q k h)
+        ap (λ (U : Tables). readsAt U place) (sym (facts g .laid))
+        ∙ reads-back n (decode T) (facts g .sound) place place-held
+        ∙ ap (λ (c : Change). lists c .reads) (by-place g k h)
 
     -- for `mark_changed`: the settings that it writes
     targets-part : targetsAt T place ≡ settingsOf (lists here .writes)
     targets-part =
-        sym (settings-entries (getD (T .writes) place 0) (drop (32 * place) (T .targets)) (drop (32 * place) (T .written)) (simp length-drop (omega (arith, form .writes place (form .places k h) .short, lengths .written, place-room))))
-        ∙ ap settingsOf (wrote n T e q k h)
+        sym (settings-entries (getD (T .writes) place 0) (drop (32 * place) (T .targets)) (drop (32 * place) (T .written)) (simp length-drop (omega (arith, facts g .form .writes place (facts g .form .places k h) .short, facts g .lengths .written, place-room))))
+        ∙ ap settingsOf (wrote g k h)
 
     pub targets-below : (i : ℕ) → i < length (targetsAt T place) → getD (targetsAt T place) i 0 < settingCount
     targets-below = rw targets-part (settings-below (lists here .writes) (here-sound .writes .distinct))
@@ -199,7 +183,7 @@ module _ (n : ℕ) (T : Tables) (e : lengthsFit n T ≡ true) (q : inForm n T �
     -- ---- the settings that change where its writes are replaced by the first count of new ones
 
     old-is : oldIn T k ≡ after (lists here .writes) (uptoIn T k)
-    old-is = ap₂ (λ (w : List Entry) (env : Environment). after w env) (wrote n T e q k h) (values-below k (omega arith))
+    old-is = ap₂ (λ (w : List Entry) (env : Environment). after w env) (wrote g k h) (values-below k (omega arith))
 
     module _ (count : ℕ) (newTargets : List ℕ) (newWritten : List ℤ) (b : count ≤ length newWritten) (new : Lists) (w : entries count newTargets newWritten ≡ new .writes) (x : ℕ) (l : x < settingCount) where
       new-is : newIn T k count newTargets newWritten ≡ after (new .writes) (uptoIn T k)

@@ -11,7 +11,7 @@ use Rattle.model.specs.History.{eqZ}
 use Rattle.model.proofs.Values.{eqZ-true, eqZ-refl}
 use Rattle.search.specs.declared.Written.{Written}
 use Rattle.search.specs.declared.Written.the-variants.{Value, Nothing}
-use Rattle.search.specs.Raw.{writtenOf}
+use Rattle.search.specs.Searches.{writtenOf}
 use Rattle.search.proofs.Answers.{written-value, written-nothing}
 
 module _ (x : Option ℤ) {w : Written} (e : w ≡ writtenOf x) where

@@ -8,7 +8,8 @@ use lib.IntN.{ℤ, pos}
 use lib.ListN.{getD, set}
 use Rattle.machine.specs.Settings.{settingCount, Environment, _orElse_, entries, after}
 use Rattle.model.specs.History.{start, eqZ}
-use Rattle.search.specs.Raw.{writesIn, previousWrite}
+use Rattle.model.specs.Tables.{Tables, heldCount, listIn}
+use Rattle.search.specs.Searches.{previousWrite}
 
 -- the first position from k on, of so many, that passes a test
 unfoldable pub firstFrom : (ℕ → Bool) → ℕ → ℕ → Option ℕ
@@ -21,6 +22,10 @@ isWaiting order status k = not (eqb (getD status (getD order k 0) 0) 1)
 
 abbrev pub waitingOf : List ℕ → List ℕ → ℕ → Option ℕ
 waitingOf order status count = firstFrom (isWaiting order status) 0 count
+
+-- the position of the change of some tables whose turn it is
+abbrev pub waitingIn : Tables → Option ℕ
+waitingIn T = waitingOf (T .order) (T .status) (heldCount T)
 
 -- the values as of a position of the order list
 abbrev pub valuesBelow : List ℕ → List ℕ → List ℕ → List ℤ → ℕ → Environment
@@ -35,7 +40,7 @@ onSettings env s = cond (ltb s settingCount) (env s) (pos 0)
 -- the values after the writes of a place, as of a position
 abbrev pub oldValues : List ℕ → List ℕ → List ℕ → List ℤ → ℕ → ℕ → Environment
 oldValues order writes targets written position place =
-    after (writesIn writes targets written place) (valuesBelow order writes targets written position)
+    after (listIn writes targets written place) (valuesBelow order writes targets written position)
 
 -- and after the first count new writes in its stead
 abbrev pub newValues : List ℕ → List ℕ → List ℕ → List ℤ → ℕ → ℕ → List ℕ → List ℤ → Environment

@@ -16,12 +16,12 @@ ghost use Rattle.machine.specs.Form.{wellFormed};
 ghost use Rattle.machine.specs.Run.{run};
 ghost use Rattle.run_record.specs.Record.{lists, Sized, Ran};
 ghost use Rattle.model.specs.History.{allHold};
-ghost use Rattle.search.specs.Raw.{foundOf, Placed, Listed};
+ghost use Rattle.search.specs.Searches.{foundOf, PlacesWithin, WriteLists};
 ghost use Rattle.execution.specs.Raw.{waitingOf, valuesBelow, onSettings, oldValues, newValues, markedLive, markedValues};
 
 // The position of the first change of the order list that is New or Invalid.
 pub fn waiting(count: usize, order: &[u16], status: &[u16]) -> Found
-    requires { ⌜ Placed count (now order) (length (now status)) ⌝ }
+    requires { ⌜ PlacesWithin count (now order) (length (now status)) ⌝ }
     ensures { λ r. ⌜ r ≡ foundOf (waitingOf (now (order .entry)) (now (status .entry)) count) ⌝ }
 {
     let mut k = 0;
@@ -47,7 +47,7 @@ pub fn value_below(
     targets: &[u16],
     written: &[i32],
 ) -> i32
-    requires { ⌜ Placed position (now order) (length (now writes)) × Listed (now writes) (now targets) (now written) ⌝ }
+    requires { ⌜ PlacesWithin position (now order) (length (now writes)) × WriteLists (now writes) (now targets) (now written) ⌝ }
     ensures { λ r. ⌜ r ≡ valuesBelow (now (order .entry)) (now (writes .entry)) (now (targets .entry)) (now (written .entry)) position s ⌝ }
 {
     match previous_write(s, position, order, writes, targets, written) {
@@ -66,7 +66,7 @@ pub fn seen_hold(
     targets: &[u16],
     written: &[i32],
 ) -> bool
-    requires { ⌜ (length (now sources) ≡ length (now seen)) × Placed position (now order) (length (now writes)) × Listed (now writes) (now targets) (now written) ⌝ }
+    requires { ⌜ (length (now sources) ≡ length (now seen)) × PlacesWithin position (now order) (length (now writes)) × WriteLists (now writes) (now targets) (now written) ⌝ }
     ensures { λ r. ⌜ r ≡ allHold (entries (length (now (sources .entry))) (now (sources .entry)) (now (seen .entry))) (valuesBelow (now (order .entry)) (now (writes .entry)) (now (targets .entry)) (now (written .entry)) position) ⌝ }
 {
     let mut i = 0;
@@ -88,7 +88,7 @@ fn wanted_value(
     targets: &[u16],
     written: &[i32],
 ) -> i32
-    requires { ⌜ Placed position (now order) (length (now writes)) × Listed (now writes) (now targets) (now written) ⌝ }
+    requires { ⌜ PlacesWithin position (now order) (length (now writes)) × WriteLists (now writes) (now targets) (now written) ⌝ }
     ensures { λ r. ⌜ r ≡ onSettings (valuesBelow (now (order .entry)) (now (writes .entry)) (now (targets .entry)) (now (written .entry)) position) s ⌝ }
 {
     if s < 1024 {
@@ -110,7 +110,7 @@ pub fn run_at(
     new_targets: &mut [u16; 32],
     new_written: &mut [i32; 32],
 ) -> Run
-    requires { ⌜ (length (now program) ≤ 256) × (wellFormed (now program) ≡ true) × Placed position (now order) (length (now writes)) × Listed (now writes) (now targets) (now written) × Sized (lists (now «new_sources») (now «new_seen») (now «new_targets») (now «new_written»)) ⌝ }
+    requires { ⌜ (length (now program) ≤ 256) × (wellFormed (now program) ≡ true) × PlacesWithin position (now order) (length (now writes)) × WriteLists (now writes) (now targets) (now written) × Sized (lists (now «new_sources») (now «new_seen») (now «new_targets») (now «new_written»)) ⌝ }
     ensures { λ r. ⌜ Ran r (lists (now («new_sources» .exit)) (now («new_seen» .exit)) (now («new_targets» .exit)) (now («new_written» .exit))) (run (valuesBelow (now (order .entry)) (now (writes .entry)) (now (targets .entry)) (now (written .entry)) position) (now (program .entry))) ⌝ }
 {
     let count = program.len() / 8;
@@ -161,7 +161,7 @@ pub fn mark_changed(
     live: &mut [u8],
     values: &mut [i32],
 )
-    requires { ⌜ ((i : ℕ) → i < length (now settings) → getD (now settings) i 0 < 1024) × Placed position (now order) (length (now writes)) × Listed (now writes) (now targets) (now written) × (place < length (now writes)) × (count ≤ 32) × (32 ≤ length (now «new_targets»)) × (32 ≤ length (now «new_written»)) × (length (now live) ≡ 1024) × (length (now values) ≡ 1024) ⌝ }
+    requires { ⌜ ((i : ℕ) → i < length (now settings) → getD (now settings) i 0 < 1024) × PlacesWithin position (now order) (length (now writes)) × WriteLists (now writes) (now targets) (now written) × (place < length (now writes)) × (count ≤ 32) × (32 ≤ length (now «new_targets»)) × (32 ≤ length (now «new_written»)) × (length (now live) ≡ 1024) × (length (now values) ≡ 1024) ⌝ }
     ensures { λ _. ⌜ (now (live .exit) ≡ markedLive (oldValues (now (order .entry)) (now (writes .entry)) (now (targets .entry)) (now (written .entry)) position place) (newValues (now (order .entry)) (now (writes .entry)) (now (targets .entry)) (now (written .entry)) position count (now («new_targets» .entry)) (now («new_written» .entry))) (now (settings .entry)) (now (live .entry))) × (now (values .exit) ≡ markedValues (oldValues (now (order .entry)) (now (writes .entry)) (now (targets .entry)) (now (written .entry)) position place) (newValues (now (order .entry)) (now (writes .entry)) (now (targets .entry)) (now (written .entry)) position count (now («new_targets» .entry)) (now («new_written» .entry))) (now (settings .entry)) (now (values .entry))) ⌝ }
 {
     let size = writes[place] as usize;

@@ -1,14 +1,14 @@
 // The calls for programs in other languages, as a static library. Each answer is one number.
+use answer_numbers::answer_number;
+use answer_numbers::put_timestamp;
+use answer_numbers::put_totals;
+use answer_numbers::standing_number;
+use answer_numbers::value_number;
 use checker::drain;
 use checker::turn;
 use intake::take_in;
 use intake::take_in_package;
 use intake::withdraw;
-use numbers::answer_number;
-use numbers::put_timestamp;
-use numbers::put_totals;
-use numbers::standing_number;
-use numbers::value_number;
 use queries::current_value;
 use queries::plain_run;
 use queries::standing;
@@ -17,7 +17,7 @@ use setup::set_up;
 ghost use mathlib.Core.Path.{_≡_};
 ghost use Rattle.model.specs.Tables.{tables};
 ghost use Rattle.model.specs.Calls.{answerNumber, setUp, takeIn, withdraw, takeInPackage, currentValue, valueAsOf, standing, plainRun};
-ghost use Rattle.numbers.specs.Numbers.{valueNumber, standingNumber, sliceReply, turnNumbers, drainNumbers};
+ghost use Rattle.answer_numbers.specs.Numbers.{valueNumber, standingNumber, sliceReply, turnNumbers, drainNumbers};
 
 // Set up: the number of its answer.
 #[no_mangle]

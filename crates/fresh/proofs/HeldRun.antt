@@ -14,7 +14,8 @@ use Rattle.machine.specs.Form.{wellFormed}
 use Rattle.machine.specs.Run.{run}
 use Rattle.machine.proofs.Cases.{by-test}
 use Rattle.machine.proofs.Settings.{length-carry}
-use Rattle.fresh.specs.Raw.{programIn, heldRun, Runnable}
+use Rattle.fresh.specs.HeldRuns.{heldRun, Runnable}
+use Rattle.model.specs.Tables.{programIn}
 
 -- the bytes of a place's program, from their start to their end
 abbrev pub partOf : List ℕ → List ℕ → ℕ → List ℕ

@@ -14,23 +14,22 @@ use Rattle.machine.proofs.Lists.{run-agree}
 use Rattle.model.specs.History.{runLists, Change, change, program, withdrawn, History, allSettings}
 use Rattle.model.specs.Book.{freshAfter, freshEnd, bookedAs, bookOf}
 use Rattle.model.specs.Cabinet.{Cabinet, blank, historyOf}
-use Rattle.model.specs.Tables.{Tables, flagNumber, encode, heldCount, decode}
-use Rattle.model.specs.Form.{lengthsFit, inForm}
+use Rattle.model.specs.Tables.{Tables, flagNumber, encode, heldCount, decode, programIn}
 use Rattle.model.specs.Sound.{Sound}
 use Rattle.model.proofs.Values.{value-allSettings}
 use Rattle.model.proofs.Tabulate.{length-tabulate}
-use Rattle.model.proofs.Tests.{lengths-of, form-of}
 use Rattle.model.proofs.Order.{changesAt-length, changesAt-get, below-at}
 use Rattle.model.proofs.Tables.{length-short, sound-at, held-count, order-at, withdrawn-at, program-back}
-use Rattle.model.proofs.Form.{decode-sound, encode-decode}
-use Rattle.fresh.specs.Raw.{programIn, runPlace, heldRun, Runnable}
+use Rattle.model.specs.Form.{Formed}
+use Rattle.model.proofs.Form.{facts}
+use Rattle.fresh.specs.HeldRuns.{runPlace, heldRun, Runnable}
 use Rattle.fresh.proofs.Filled.{filled-all}
 
 -- tables in form have what the code relies on
-pub runnable : (n : ℕ) (T : Tables) → lengthsFit n T ≡ true → inForm n T ≡ true → Runnable (heldCount T) (T .order) (T .withdrawn) (T .lengths) (T .programs)
-runnable n T e q =
-    let g = lengths-of n T e in
-    let f = form-of n T q in
+pub runnable : {n : ℕ} {T : Tables} → Formed n T → Runnable (heldCount T) (T .order) (T .withdrawn) (T .lengths) (T .programs)
+runnable {n} {T} formed =
+    let g = facts formed .lengths in
+    let f = facts formed .form in
     record {
       long = omega (arith, g .order, f .small);
       limit = heldCount T;
@@ -92,7 +91,7 @@ module _ (n : ℕ) (c : Cabinet) (s : Sound n c) (env : Environment) where
       ∙ ap (λ h. allSettings (freshEnd (bookOf h) env)) (take-all (length (c .order)) (historyOf c) (omega (arith, changesAt-length (c .changes) (c .order))))
 
 -- the held changes of tables in form, run on the values of an environment, give those at the end of the fresh run over their book
-pub held-fresh : (n : ℕ) (T : Tables) → lengthsFit n T ≡ true → inForm n T ≡ true → (env : Environment) → heldRun (T .order) (T .withdrawn) (T .lengths) (T .programs) (allSettings env) (heldCount T) ≡ allSettings (freshEnd (bookOf (historyOf (decode T))) env)
-held-fresh n T e q env =
-    subst (λ (U : Tables). heldRun (U .order) (U .withdrawn) (U .lengths) (U .programs) (allSettings env) (heldCount U) ≡ allSettings (freshEnd (bookOf (historyOf (decode T))) env)) (encode-decode n T e q)
-    (held-encoded n (decode T) (decode-sound n T e q) env)
+pub held-fresh : {n : ℕ} {T : Tables} → Formed n T → (env : Environment) → heldRun (T .order) (T .withdrawn) (T .lengths) (T .programs) (allSettings env) (heldCount T) ≡ allSettings (freshEnd (bookOf (historyOf (decode T))) env)
+held-fresh {n} {T} g env =
+    subst (λ (U : Tables). heldRun (U .order) (U .withdrawn) (U .lengths) (U .programs) (allSettings env) (heldCount U) ≡ allSettings (freshEnd (bookOf (historyOf (decode T))) env)) (facts g .laid)
+    (held-encoded n (decode T) (facts g .sound) env)

@@ -9,7 +9,7 @@ ghost use Rattle.machine.specs.Settings.{valueIn, carry};
 ghost use Rattle.machine.specs.Form.{wellFormed};
 ghost use Rattle.machine.specs.Run.{run};
 ghost use Rattle.model.specs.History.{start, allSettings};
-ghost use Rattle.fresh.specs.Raw.{heldRun, Runnable};
+ghost use Rattle.fresh.specs.HeldRuns.{heldRun, Runnable};
 
 // The start value of a setting.
 pub fn start_value(s: usize) -> i32

@@ -8,8 +8,10 @@ use Rattle.model.specs.declared.Answer.the-variants as answer
 use Rattle.model.specs.Tables.{Tables}
 use Rattle.model.specs.Package.{Item}
 use Rattle.model.specs.Calls.{reply, itemCall, takeIn, withdraw}
+use Rattle.model.specs.Form.{Formed}
+use Rattle.model.specs.Refusals.{faultOf}
 use Rattle.items.proofs.Stores.{withTaken, withWithdrawn}
-use Rattle.tables.proofs.Faults.{faultOf, Faultless, faulty}
+use Rattle.tables.proofs.Faults.{faulty}
 use Rattle.item_steps.specs.Raw.{TakenItem, WithdrawnItem}
 use Rattle.item_steps.proofs.Items.{item-reply, take-outcome, withdraw-outcome}
 
@@ -26,7 +28,7 @@ module _ (n : ℕ) (T : Tables) where
     unfolding takeIn
     take-fault e f = item-fault _ e f
 
-    pub take-reply : {a : Answer} {held timestamps order lengths programs : List ℕ} → Faultless n T → TakenItem n t p a (T .held) (T .timestamps) (T .order) (T .lengths) (T .programs) held timestamps order lengths programs → reply a (withTaken T held timestamps order lengths programs) ≡ takeIn n T t p
+    pub take-reply : {a : Answer} {held timestamps order lengths programs : List ℕ} → Formed n T → TakenItem n t p a (T .held) (T .timestamps) (T .order) (T .lengths) (T .programs) held timestamps order lengths programs → reply a (withTaken T held timestamps order lengths programs) ≡ takeIn n T t p
     unfolding takeIn
     take-reply g k = item-reply n T _ g (take-outcome n T g t p k)
 
@@ -37,6 +39,6 @@ module _ (n : ℕ) (T : Tables) where
     unfolding withdraw
     withdraw-fault e f = item-fault _ e f
 
-    pub withdraw-reply : {a : Answer} {status' withdrawn' : List ℕ} → Faultless n T → WithdrawnItem t a (T .held) (T .timestamps) (T .order) (T .status) (T .withdrawn) status' withdrawn' → reply a (withWithdrawn T status' withdrawn') ≡ withdraw n T t
+    pub withdraw-reply : {a : Answer} {status' withdrawn' : List ℕ} → Formed n T → WithdrawnItem t a (T .held) (T .timestamps) (T .order) (T .status) (T .withdrawn) status' withdrawn' → reply a (withWithdrawn T status' withdrawn') ≡ withdraw n T t
     unfolding withdraw
     withdraw-reply g k = item-reply n T _ g (withdraw-outcome n T g t k)

@@ -13,13 +13,13 @@ use lib.Signed.{ltZ}
 use Rattle.words.specs.Words.{isZero}
 use Rattle.machine.specs.declared.Effect.{Effect}
 use Rattle.machine.specs.declared.Instruction.{Instruction}
-use Rattle.machine.specs.Settings.{Environment, entries}
+use Rattle.machine.specs.Settings.{Environment, entries, everywhere}
 use Rattle.machine.specs.Instruction.{instructionAt, instructionsFrom, instructionCount, programOf}
 use Rattle.machine.specs.Form.{isDistance, wellFormed}
 use Rattle.machine.specs.Run.{registerIn, effect, State, perform, step, wanted, Outcome, continue, runFrom, runProgram, run}
 use Rattle.machine.proofs.Cases.{by-test, true-is-not-false}
 use Rattle.machine.proofs.Form.{Parts, parts-at}
-use Rattle.machine.proofs.Step.{everywhere, perform-wanted}
+use Rattle.machine.proofs.Step.{perform-wanted}
 use Rattle.run_record.specs.declared.Run.{Run}
 use Rattle.run_record.specs.Record.{begun, ended, distanceOf, Operands, Performable, Lists, Sized, stateOf, outcomeOf, proceed, Ready, Stepped, Ran}
 use Rattle.bytecode.proofs.Numbers.{_then_, in-range}

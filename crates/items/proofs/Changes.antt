@@ -8,12 +8,13 @@ use native.Mathlib.Omega.{arith}
 use borrow.Author.Tests.{lt-ltb, le-ltb, eq-eqb, ne-eqb, eqb-true, eqb-false}
 use lib.Dec.{eqb}
 use lib.ListN.{length, getD, set, take, drop}
-use lib.Seq.{getD-set-other, set-getD}
+use lib.Seq.{set-getD}
 use Rattle.machine.proofs.Cases.{by-test}
 use Rattle.model.specs.History.{Change, timestamp, History}
 use Rattle.model.specs.Cabinet.{blank, changesAt, putAt, find, enterPlace, flag}
-use Rattle.model.specs.Sound.{Rising, NotIn, AllDistinct}
+use Rattle.model.specs.Sound.{Rising, AllDistinct}
 use Rattle.model.proofs.Figure.{AllBelow, NoneBelow}
+use Rattle.model.proofs.Cabinet.{put-back, changesAt-other}
 
 -- ---- the change of a timestamp
 
@@ -54,15 +55,6 @@ flagged-none t b [] l r = refl
 flagged-none t b (c ∷ h) l r =
     ap₂ _∷_ (rw (ne-eqb (timestamp c) t (omega (arith, r .0)))) (flagged-none t (timestamp c) h (omega (arith, r .0)) (r .2))
 
-put-back : (places : List ℕ) (changes : List Change) → putAt places (changesAt changes places) changes ≡ changes
-put-back [] changes = refl
-put-back (i ∷ places) changes = ap (putAt places (changesAt changes places)) (set-getD changes i blank) ∙ put-back places changes
-
-changesAt-other : (changes : List Change) (i : ℕ) (c : Change) (places : List ℕ) → NotIn i places → changesAt (set changes i c) places ≡ changesAt changes places
-changesAt-other changes i c [] n = refl
-changesAt-other changes i c (j ∷ places) n =
-    ap₂ _∷_ (getD-set-other changes i j c blank (λ e. n .0 (sym e))) (changesAt-other changes i c places (n .1))
-
 -- one place of the order list has the timestamp: its change is flagged
 pub flagged-one : (changes : List Change) (t b : ℕ) (order : List ℕ) (k : ℕ) → AllDistinct order → Rising b (changesAt changes order) → AllBelow t (take k (changesAt changes order)) → k < length order → timestamp (getD changes (getD order k 0) blank) ≡ t → putAt order (map (flagged t) (changesAt changes order)) changes ≡ set changes (getD order k 0) (flag (getD changes (getD order k 0) blank))
 flagged-one changes t b [] k d r a l e = absurd (omega arith)
@@ -70,7 +62,7 @@ flagged-one changes t b (i ∷ order) zero d r a l e =
     let c = getD changes i blank in
     ap₂ (λ (g : History) (x : Change). putAt order g (set changes i x)) (flagged-none t (timestamp c) (changesAt changes order) (omega arith) (r .2)) (rw (eq-eqb (timestamp c) t e))
     ∙ ap (λ (g : History). putAt order g (set changes i (flag c))) (sym (changesAt-other changes i (flag c) order (d .0)))
-    ∙ put-back order (set changes i (flag c))
+    ∙ put-back (set changes i (flag c)) order
 flagged-one changes t b (i ∷ order) (suc k) d r a l e =
     let c = getD changes i blank in
     ap (putAt order (map (flagged t) (changesAt changes order))) (ap (set changes i) (rw (ne-eqb (timestamp c) t (omega (arith, a .0)))) ∙ set-getD changes i blank)

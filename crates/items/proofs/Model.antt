@@ -14,15 +14,13 @@ use Rattle.model.specs.declared.Answer.the-variants as answer
 use Rattle.model.specs.History.{isTimestamp, Change, program, withdrawn}
 use Rattle.model.specs.Cabinet.{blank, find}
 use Rattle.model.specs.Tables.{Tables, flagNumber, encode, heldCount, programAt, decode}
-use Rattle.model.specs.Form.{lengthsFit, inForm}
 use Rattle.model.specs.Refusals.{test, firstOf, sameBytes, isHeld, holdsOther, isWithdrawn}
 use Rattle.model.specs.Package.{taking, withdrawing}
 use Rattle.model.specs.Calls.{unlessRead, itemAnswer, itemDone}
-use Rattle.model.specs.Sound.{Sound}
-use Rattle.model.proofs.Tests.{Lengths, FormTests, lengths-of, form-of}
 use Rattle.model.proofs.Tables.{length-short, withdrawn-at, program-back}
-use Rattle.model.proofs.Form.{decode-sound, encode-decode}
 use Rattle.model.proofs.Items.{taking-done, withdrawing-done}
+use Rattle.model.specs.Form.{Formed}
+use Rattle.model.proofs.Form.{facts}
 use Rattle.search.proofs.Split.{Split}
 use Rattle.search.proofs.Model.{historyIn, rankIn, positionIn, placed-stamps, held-changes, place-of, rank-splits, position-none, position-some}
 use Rattle.items.specs.Raw.{TakeReady, takeAnswerAt, takeAnswer, TakeStoreReady, Stored, WithdrawReady, withdrawAnswerAt, withdrawAnswer, WithdrawStoreReady, Withdrawn}
@@ -72,42 +70,30 @@ flag-zero : (b : Bool) → eqb (flagNumber b) 0 ≡ not b
 flag-zero true = refl
 flag-zero false = refl
 
-module _ (n : ℕ) (T : Tables) (e : lengthsFit n T ≡ true) (q : inForm n T ≡ true) where
-  lengths : Lengths n T
-  lengths = lengths-of n T e
-
-  form : FormTests n T
-  form = form-of n T q
-
-  sound : Sound n (decode T)
-  sound = decode-sound n T e q
-
-  laid : encode n (decode T) ≡ T
-  laid = encode-decode n T e q
-
+module _ {n : ℕ} {T : Tables} (g : Formed n T) where
   -- the change at a place of the tables
   abbrev changeIn : ℕ → Change
   changeIn i = getD (decode T .changes) i blank
 
   program-in : (i : ℕ) → i < heldCount T → programAt T i ≡ program (changeIn i)
-  program-in i h = ap (λ (U : Tables). programAt U i) (sym laid) ∙ program-back n (decode T) sound i (omega (arith, held-changes n T e q))
+  program-in i h = ap (λ (U : Tables). programAt U i) (sym (facts g .laid)) ∙ program-back n (decode T) (facts g .sound) i (omega (arith, held-changes g))
 
   withdrawn-in : (i : ℕ) → eqb (getD (T .withdrawn) i 0) 0 ≡ not (withdrawn (changeIn i))
-  withdrawn-in i = ap (λ (U : Tables). eqb (getD (U .withdrawn) i 0) 0) (sym laid) ∙ ap (λ (m : ℕ). eqb m 0) (withdrawn-at n (decode T) i) ∙ flag-zero (withdrawn (changeIn i))
+  withdrawn-in i = ap (λ (U : Tables). eqb (getD (U .withdrawn) i 0) 0) (sym (facts g .laid)) ∙ ap (λ (m : ℕ). eqb m 0) (withdrawn-at n (decode T) i) ∙ flag-zero (withdrawn (changeIn i))
 
   -- the change of a timestamp whose position is found
   found : (t k : ℕ) → positionIn T t ≡ some k → find t (historyIn T) ≡ some (changeIn (getD (T .order) k 0))
-  found t k m = position-some n T e q t k m .1 ∙ ap (λ (i : ℕ). some (changeIn i)) (sym (place-of n T e q k))
+  found t k m = position-some g t k m .1 ∙ ap (λ (i : ℕ). some (changeIn i)) (sym (place-of g k))
 
   -- ---- answers
 
   take-told : (t : ℕ) (p : List ℕ) (x : Option ℕ) → positionIn T t ≡ x → takeAnswerAt n (heldCount T) (T .order) (T .lengths) (T .programs) p x ≡ takeReply n (length (decode T .changes)) p (find t (historyIn T))
   take-told t p none m =
       take-none n (heldCount T) p
-      ∙ ap (λ (count : ℕ). takeReply n count p none) (sym (held-changes n T e q))
-      ∙ ap (takeReply n (length (decode T .changes)) p) (sym (position-none n T e q t m))
+      ∙ ap (λ (count : ℕ). takeReply n count p none) (sym (held-changes g))
+      ∙ ap (takeReply n (length (decode T .changes)) p) (sym (position-none g t m))
   take-told t p (some k) m =
-      ap (λ (bytes : List ℕ). cond (sameBytes bytes p) answer.Held (answer.Refused 8)) (program-in (getD (T .order) k 0) (form .places k (position-some n T e q t k m .0)))
+      ap (λ (bytes : List ℕ). cond (sameBytes bytes p) answer.Held (answer.Refused 8)) (program-in (getD (T .order) k 0) (facts g .form .places k (position-some g t k m .0)))
       ∙ take-some n (length (decode T .changes)) p (changeIn (getD (T .order) k 0))
       ∙ ap (takeReply n (length (decode T .changes)) p) (sym (found t k m))
 
@@ -120,7 +106,7 @@ module _ (n : ℕ) (T : Tables) (e : lengthsFit n T ≡ true) (q : inForm n T �
       (refused-or (not (wellFormed p)) 7 _ _ refl (take-told t p (positionIn T t) refl)))
 
   withdraw-told : (t : ℕ) (x : Option ℕ) → positionIn T t ≡ x → withdrawAnswerAt (T .order) (T .withdrawn) x ≡ withdrawReply (find t (historyIn T))
-  withdraw-told t none m = ap withdrawReply (sym (position-none n T e q t m))
+  withdraw-told t none m = ap withdrawReply (sym (position-none g t m))
   withdraw-told t (some k) m =
       ap (λ (b : Bool). cond b answer.Done (answer.Refused 11)) (withdrawn-in (getD (T .order) k 0))
       ∙ withdraw-some (changeIn (getD (T .order) k 0))
@@ -137,15 +123,15 @@ module _ (n : ℕ) (T : Tables) (e : lengthsFit n T ≡ true) (q : inForm n T �
   pub take-ready : TakeReady (heldCount T) (T .order) (T .timestamps) (T .lengths) (T .programs)
   take-ready =
       record {
-        placed = placed-stamps n T e q;
-        length-slots = lengths .lengths ∙ sym (lengths .timestamps);
-        program-slots = omega (arith, lengths .programs, lengths .timestamps);
-        short = λ k h. form .programs (getD (T .order) k 0) (form .places k h) .short;
+        placed = placed-stamps g;
+        length-slots = facts g .lengths .lengths ∙ sym (facts g .lengths .timestamps);
+        program-slots = omega (arith, facts g .lengths .programs, facts g .lengths .timestamps);
+        short = λ k h. facts g .form .programs (getD (T .order) k 0) (facts g .form .places k h) .short;
       }
 
   -- for `withdraw_answer`
   pub withdraw-ready : WithdrawReady (heldCount T) (T .order) (T .timestamps) (T .withdrawn)
-  withdraw-ready = record { placed = placed-stamps n T e q; flag-slots = lengths .withdrawn ∙ sym (lengths .timestamps) }
+  withdraw-ready = record { placed = placed-stamps g; flag-slots = facts g .lengths .withdrawn ∙ sym (facts g .lengths .timestamps) }
 
   -- ---- what the stores require where the answer is done, and what they leave
 
@@ -153,29 +139,29 @@ module _ (n : ℕ) (T : Tables) (e : lengthsFit n T ≡ true) (q : inForm n T �
     -- for `take_store`
     pub take-store-ready : TakeStoreReady (T .held) (T .timestamps) (T .order) (T .lengths) (T .programs) p
     take-store-ready =
-        let g = taking-done n (decode T) t p d in
+        let done = taking-done n (decode T) t p d in
         record {
-          counted = lengths .held;
-          placed = placed-stamps n T e q;
-          room = omega (arith, g .room, held-changes n T e q, lengths .timestamps);
-          capacity = omega (arith, lengths .capacity, lengths .timestamps);
-          order-slots = lengths .order ∙ sym (lengths .timestamps);
-          length-slots = lengths .lengths ∙ sym (lengths .timestamps);
-          program-slots = omega (arith, lengths .programs, lengths .timestamps);
-          short = length-short p (g .sized);
+          counted = facts g .lengths .held;
+          placed = placed-stamps g;
+          room = omega (arith, done .room, held-changes g, facts g .lengths .timestamps);
+          capacity = omega (arith, facts g .lengths .capacity, facts g .lengths .timestamps);
+          order-slots = facts g .lengths .order ∙ sym (facts g .lengths .timestamps);
+          length-slots = facts g .lengths .lengths ∙ sym (facts g .lengths .timestamps);
+          program-slots = omega (arith, facts g .lengths .programs, facts g .lengths .timestamps);
+          short = length-short p (done .sized);
         }
 
     -- the tables after `take_store`
     pub take-stores : {held timestamps order lengths programs : List ℕ} → Stored t p (T .held) (T .timestamps) (T .order) (T .lengths) (T .programs) held timestamps order lengths programs → withTaken T held timestamps order lengths programs ≡ encode n (itemDone (decode T) (taking t p))
     take-stores {held} {timestamps} {order} {lengths} {programs} k =
-        let g = taking-done n (decode T) t p d in
+        let done = taking-done n (decode T) t p d in
         subst (λ (U : Tables). Split t (historyIn T) (rankIn U t) → Stored t p (U .held) (U .timestamps) (U .order) (U .lengths) (U .programs) held timestamps order lengths programs → withTaken U held timestamps order lengths programs ≡ encode n (itemDone (decode T) (taking t p)))
-        laid (added n (decode T) sound t p (g .room) (length-short p (g .sized)) (g .not-held)) (rank-splits n T e q t) k
+        (facts g .laid) (added n (decode T) (facts g .sound) t p (done .room) (length-short p (done .sized)) (done .not-held)) (rank-splits g t) k
 
   module _ (t : ℕ) (d : itemAnswer n (decode T) (withdrawing t) ≡ answer.Done) where
     -- the timestamp is held, at its rank
     at-rank : (x : Option ℕ) → positionIn T t ≡ x → positionIn T t ≡ some (rankIn T t)
-    at-rank none m = true-is-not-false (sym (withdrawing-done n (decode T) t d .held) ∙ ap isHeld (position-none n T e q t m))
+    at-rank none m = true-is-not-false (sym (withdrawing-done n (decode T) t d .held) ∙ ap isHeld (position-none g t m))
     at-rank (some k) m = m ∙ ap some (sym (position-is-rank (T .order) (T .timestamps) t (heldCount T) m))
 
     position-found : positionIn T t ≡ some (rankIn T t)
@@ -185,17 +171,17 @@ module _ (n : ℕ) (T : Tables) (e : lengthsFit n T ≡ true) (q : inForm n T �
     pub withdraw-store-ready : WithdrawStoreReady t (heldCount T) (T .order) (T .timestamps) (T .status) (T .withdrawn)
     withdraw-store-ready =
         record {
-          placed = placed-stamps n T e q;
+          placed = placed-stamps g;
           found = position-found;
-          status-slots = lengths .status ∙ sym (lengths .timestamps);
-          flag-slots = lengths .withdrawn ∙ sym (lengths .timestamps);
+          status-slots = facts g .lengths .status ∙ sym (facts g .lengths .timestamps);
+          flag-slots = facts g .lengths .withdrawn ∙ sym (facts g .lengths .timestamps);
         }
 
     -- the tables after `withdraw_store`
     pub withdraw-stores : {status' withdrawn' : List ℕ} → Withdrawn t (heldCount T) (T .order) (T .timestamps) (T .status) (T .withdrawn) status' withdrawn' → withWithdrawn T status' withdrawn' ≡ encode n (itemDone (decode T) (withdrawing t))
     withdraw-stores {status'} {withdrawn'} w =
-        let k = position-some n T e q t (rankIn T t) position-found in
+        let k = position-some g t (rankIn T t) position-found in
         subst (λ (U : Tables). rankIn U t ≡ rankIn T t → Withdrawn t (heldCount U) (U .order) (U .timestamps) (U .status) (U .withdrawn) status' withdrawn' → withWithdrawn U status' withdrawn' ≡ encode n (itemDone (decode T) (withdrawing t)))
-        laid
-        (removed n (decode T) sound t (rankIn T t) (omega (arith, k .0, held-changes n T e q, sound .placed .counted)) (find-stamp t (historyIn T) (k .1)) (rank-splits n T e q t .below))
+        (facts g .laid)
+        (removed n (decode T) (facts g .sound) t (rankIn T t) (omega (arith, k .0, held-changes g, facts g .sound .placed .counted)) (find-stamp t (historyIn T) (k .1)) (rank-splits g t .below))
         refl w

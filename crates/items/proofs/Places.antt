@@ -10,7 +10,7 @@ use lib.Dec.{eqb, ltb}
 use lib.ListN.{getD}
 use Rattle.machine.proofs.Cases.{by-test, both}
 use Rattle.model.specs.Form.{timestampOf}
-use Rattle.search.specs.Raw.{Placed, rankOf, positionOf}
+use Rattle.search.specs.Searches.{PlacesWithin, rankOf, positionOf}
 
 module _ (order timestamps : List ℕ) (t count : ℕ) {k : ℕ} (e : positionOf order timestamps t count ≡ some k) where
   -- it is the rank, and a position of a held change
@@ -27,5 +27,5 @@ module _ (order timestamps : List ℕ) (t count : ℕ) {k : ℕ} (e : positionOf
   pub position-below : k < count
   position-below = position-rank .1
 
-  pub place-below : {limit : ℕ} → Placed count order limit → getD order k 0 < limit
+  pub place-below : {limit : ℕ} → PlacesWithin count order limit → getD order k 0 < limit
   place-below p = p .below k position-below

@@ -11,9 +11,9 @@ use Rattle.machine.specs.Form.{lengthFits, wellFormed}
 use Rattle.model.specs.declared.Answer.{Answer}
 use Rattle.model.specs.declared.Answer.the-variants as answer
 use Rattle.model.specs.History.{isTimestamp}
-use Rattle.model.specs.Tables.{slots}
 use Rattle.model.specs.Refusals.{sameBytes}
-use Rattle.search.specs.Raw.{Placed, rankOf, positionOf}
+use Rattle.model.specs.Tables.{programIn}
+use Rattle.search.specs.Searches.{PlacesWithin, rankOf, positionOf}
 
 -- ---- parts of lists
 
@@ -25,15 +25,11 @@ copied source at destination = take at destination ++ source ++ drop (at + lengt
 abbrev pub entered : ℕ → ℕ → ℕ → List ℕ → List ℕ
 entered place rank count order = take rank order ++ (place ∷ (slice rank count order ++ drop (count + 1) order))
 
--- the program of a place
-abbrev pub programIn : List ℕ → List ℕ → ℕ → List ℕ
-programIn lengths programs place = slots 256 place (8 * getD lengths place 0) programs
-
 -- ---- take in
 
 -- what the answer requires: held places have a timestamp, a length and a block for their program
 pub record TakeReady (count : ℕ) (order timestamps lengths programs : List ℕ) : Type 0 where
-  pub placed : Placed count order (length timestamps)
+  pub placed : PlacesWithin count order (length timestamps)
   pub length-slots : length lengths ≡ length timestamps
   pub program-slots : length programs ≡ 256 * length timestamps
   pub short : (k : ℕ) → k < count → getD lengths (getD order k 0) 0 ≤ 32
@@ -54,7 +50,7 @@ takeAnswer n count order timestamps lengths programs t p =
 -- what the store requires: a place is left, and the program has room in its block
 pub record TakeStoreReady (held timestamps order lengths programs p : List ℕ) : Type 0 where
   pub counted : length held ≡ 1
-  pub placed : Placed (getD held 0 0) order (length timestamps)
+  pub placed : PlacesWithin (getD held 0 0) order (length timestamps)
   pub room : getD held 0 0 < length timestamps
   pub capacity : length timestamps ≤ 4096
   pub order-slots : length order ≡ length timestamps
@@ -74,7 +70,7 @@ pub record Stored (t : ℕ) (p held timestamps order lengths programs held' time
 
 -- what the answer requires
 pub record WithdrawReady (count : ℕ) (order timestamps withdrawn : List ℕ) : Type 0 where
-  pub placed : Placed count order (length timestamps)
+  pub placed : PlacesWithin count order (length timestamps)
   pub flag-slots : length withdrawn ≡ length timestamps
 
 -- the answer by the position of the timestamp: not held, done, withdrawn already
@@ -88,7 +84,7 @@ withdrawAnswer count order timestamps withdrawn t =
 
 -- what the store requires: the timestamp is held
 pub record WithdrawStoreReady (t count : ℕ) (order timestamps status withdrawn : List ℕ) : Type 0 where
-  pub placed : Placed count order (length timestamps)
+  pub placed : PlacesWithin count order (length timestamps)
   pub found : positionOf order timestamps t count ≡ some (rankOf order timestamps t count)
   pub status-slots : length status ≡ length timestamps
   pub flag-slots : length withdrawn ≡ length timestamps

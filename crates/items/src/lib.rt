@@ -10,7 +10,8 @@ ghost use Prim.Native.Nat.{_+_, _*_, _<_, _≤_};
 ghost use lib.ListN.{length, getD};
 ghost use Rattle.model.specs.History.{isTimestamp};
 ghost use Rattle.model.specs.Refusals.{sameBytes};
-ghost use Rattle.items.specs.Raw.{copied, entered, programIn, TakeReady, takeAnswer, TakeStoreReady, Stored, WithdrawReady, withdrawAnswer, WithdrawStoreReady, Withdrawn};
+ghost use Rattle.model.specs.Tables.{programIn};
+ghost use Rattle.items.specs.Raw.{copied, entered, TakeReady, takeAnswer, TakeStoreReady, Stored, WithdrawReady, withdrawAnswer, WithdrawStoreReady, Withdrawn};
 
 // Whether two programs are the same bytes.
 pub fn same_bytes(a: &[u8], b: &[u8]) -> bool

@@ -1,16 +1,12 @@
 -- A step depends on the environment at one setting.
 use mathlib.Core.Path.{_≡_, refl}
 use mathlib.Core.Bool.{Bool, true, false, cond}
-use lib.IntN.{ℤ, natAbs}
+use lib.IntN.{natAbs}
 use Rattle.machine.specs.declared.Effect.{Effect}
 use Rattle.machine.specs.declared.Effect.the-variants.{Halt, Assign, Load, Store, Skip}
-use Rattle.machine.specs.Settings.{Environment, settingCount}
+use Rattle.machine.specs.Settings.{settingCount, Environment, everywhere}
 use Rattle.machine.specs.Form.{isBelow}
 use Rattle.machine.specs.Run.{State, faults, noSetting, load, perform, wanted}
-
--- the environment that has one value everywhere
-abbrev pub everywhere : ℤ → Environment
-everywhere v s = v
 
 -- an effect may be carried out with the value of the setting that it wants in place of the environment
 pub perform-wanted : (env : Environment) (e : Effect) (state : State) → perform (everywhere (env (wanted e))) e state ≡ perform env e state

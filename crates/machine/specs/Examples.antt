@@ -1,4 +1,4 @@
--- Worked programs: those of document 01's cases P3, P6, P9, P10 and P11, a fault of each kind, and the bounds of the form test. Each table is proved by computation.
+-- Worked programs: some of document 01's cases, a fault of each kind, and the bounds of the form test. Each table is proved by computation.
 use mathlib.Core.Path.{_≡_, refl}
 use mathlib.Core.Bool.{Bool, true, false}
 use mathlib.Core.List.{List, [], _∷_, _++_, map}
@@ -36,22 +36,22 @@ reading a s = instruction 11 a 0 0 (pos s)
 abbrev pub writing : ℕ → ℕ → Instruction
 writing s a = instruction 13 a 0 0 (pos s)
 
--- P3: copies 34 to 50
+-- copies 34 to 50
 copies : Example
 copies = example (entry 34 (pos 7) ∷ []) (reading 0 34 ∷ writing 50 0 ∷ []) (entry 34 (pos 7) ∷ []) (entry 50 (pos 7) ∷ []) completed
 
--- P6: adds 1 to 34
+-- adds 1 to 34
 adds : Example
 adds =
     example (entry 34 (pos 7) ∷ [])
     (reading 0 34 ∷ constant 1 (pos 1) ∷ instruction 3 0 0 1 (pos 0) ∷ writing 34 0 ∷ [])
     (entry 34 (pos 7) ∷ []) (entry 34 (pos 8) ∷ []) completed
 
--- P9: writes 34 twice, and so writes nothing
+-- writes 34 twice, and so writes nothing
 writes-twice : Example
 writes-twice = example [] (constant 0 (pos 5) ∷ writing 34 0 ∷ writing 34 0 ∷ []) [] [] (faulted writesTwice 2)
 
--- P10: −2,147,483,648 negated; 2,147,483,647 + 1; −5 by operation 6 with n = 1; the ones of −1
+-- −2,147,483,648 negated; 2,147,483,647 + 1; −5 by operation 6 with n = 1; the ones of −1
 extremes : Example
 extremes =
     example []
@@ -72,7 +72,7 @@ extremes =
     (entry 0 (negsuc 2147483647) ∷ entry 1 (negsuc 2147483647) ∷ entry 2 (negsuc 2) ∷ entry 3 (pos 32) ∷ [])
     completed
 
--- P11: takes 300 from 36, and sets 37 to 1 if that is negative, else to 0
+-- takes 300 from 36, and sets 37 to 1 if that is negative, else to 0
 draw : Program
 draw =
     reading 0 36

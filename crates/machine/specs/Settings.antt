@@ -20,6 +20,10 @@ Environment = ℕ → ℤ
 abbrev pub valueIn : List ℤ → Environment
 valueIn values s = getD values s (pos 0)
 
+-- one value for every setting
+abbrev pub everywhere : ℤ → Environment
+everywhere v s = v
+
 -- a setting with the value that was seen in it, or written to it
 pub record Entry : Type 0 where
   pub setting : ℕ

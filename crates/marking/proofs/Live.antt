@@ -19,8 +19,9 @@ use Rattle.model.specs.Cabinet.{blank, changesAt, putAt}
 use Rattle.model.specs.Tables.{statusNumber, column, settingsOf}
 use Rattle.model.specs.Sound.{AllSound, Below, AllDistinct}
 use Rattle.model.proofs.Blocks.{column-get, column-set}
+use Rattle.model.proofs.Cabinet.{changesAt-other}
 use Rattle.marking.specs.Raw.{isLive, readsLive, closed, listAt, markedPlace, markedStatus, liveAfter}
-use Rattle.marking.proofs.Places.{Ordered, changesAt-other}
+use Rattle.marking.proofs.Places.{Ordered}
 
 -- ---- a list of entries against what is live
 

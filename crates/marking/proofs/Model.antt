@@ -11,11 +11,10 @@ use Rattle.model.specs.History.{Change, status, allSettings}
 use Rattle.model.specs.Walk.{markLive, liveAtEnd}
 use Rattle.model.specs.Cabinet.{blank, historyOf, withHistory}
 use Rattle.model.specs.Tables.{Tables, statusNumber, heldCount, encode, decode}
-use Rattle.model.specs.Form.{lengthsFit, inForm}
-use Rattle.model.specs.Sound.{Sound}
 use Rattle.model.proofs.Tables.{held-count}
 use Rattle.model.proofs.Values.{allSettings-same}
-use Rattle.model.proofs.Form.{decode-sound, encode-decode}
+use Rattle.model.specs.Form.{Formed}
+use Rattle.model.proofs.Form.{facts}
 use Rattle.marking.specs.Raw.{isLive, followed, Walkable}
 use Rattle.marking.proofs.Live.{Agree}
 use Rattle.marking.proofs.Cabinet.{liveIn, walkable, live-past}
@@ -28,31 +27,25 @@ view-follows live values view f new agree values-new =
     allSettings-same (λ x. cond (isLive live x) (valueIn values x) (valueIn view x)) (λ x. cond (f x) (new x) (valueIn view x))
     (λ x h. rw (agree x h) (by-test₂ (λ u v. u ≡ v) (f x) (values-new x h) (λ t. refl)))
 
-module _ (n : ℕ) (T : Tables) (e : lengthsFit n T ≡ true) (q : inForm n T ≡ true) where
-  sound : Sound n (decode T)
-  sound = decode-sound n T e q
-
-  laid : encode n (decode T) ≡ T
-  laid = encode-decode n T e q
-
+module _ {n : ℕ} {T : Tables} (g : Formed n T) where
   -- for `mark_later`
   pub walkable-form : Walkable (heldCount T) (T .order) (length (T .status)) (T .reads) (T .sources) (T .writes) (T .targets)
-  walkable-form = subst (λ (U : Tables). Walkable (heldCount U) (U .order) (length (U .status)) (U .reads) (U .sources) (U .writes) (U .targets)) laid (walkable n (decode T) sound)
+  walkable-form = subst (λ (U : Tables). Walkable (heldCount U) (U .order) (length (U .status)) (U .reads) (U .sources) (U .writes) (U .targets)) (facts g .laid) (walkable n (decode T) (facts g .sound))
 
   -- f is what is live
   module _ (live : List ℕ) (f : ℕ → Bool) (agree : Agree (isLive live) f) (k : ℕ) where
     -- what is live past the changes from a position on
     pub live-at-end : Agree (isLive (liveIn T k live)) (liveAtEnd f (drop k (historyOf (decode T))))
-    live-at-end = subst (λ (U : Tables). Agree (isLive (liveIn U k live)) (liveAtEnd f (drop k (historyOf (decode T))))) laid (live-past n (decode T) sound live f agree k)
+    live-at-end = subst (λ (U : Tables). Agree (isLive (liveIn U k live)) (liveAtEnd f (drop k (historyOf (decode T))))) (facts g .laid) (live-past n (decode T) (facts g .sound) live f agree k)
 
     -- the change at a position replaced, the later ones marked
     pub settled-tables : k < heldCount T → (new : Change) → Replaces new (getD (historyOf (decode T)) k blank) → (view : List ℤ) → settledIn T k new live view ≡ encode n (withHistory (decode T) (take k (historyOf (decode T)) ++ new ∷ markLive f (drop (suc k) (historyOf (decode T)))) view)
     settled-tables h new r view =
-        subst (λ (U : Tables). k < heldCount U → settledIn U k new live view ≡ encode n (withHistory (decode T) (take k (historyOf (decode T)) ++ new ∷ markLive f (drop (suc k) (historyOf (decode T)))) view)) laid
-        (λ g. settled n (decode T) sound k (rw (held-count n (decode T)) at g) new f r live agree view) h
+        subst (λ (U : Tables). k < heldCount U → settledIn U k new live view ≡ encode n (withHistory (decode T) (take k (historyOf (decode T)) ++ new ∷ markLive f (drop (suc k) (historyOf (decode T)))) view)) (facts g .laid)
+        (λ within. settled n (decode T) (facts g .sound) k (rw (held-count n (decode T)) at within) new f r live agree view) h
 
   -- the change at a position with another status
   pub restated-tables : (k : ℕ) → k < heldCount T → (new : Change) → Restates new (getD (historyOf (decode T)) k blank) → withStatus T (set (T .status) (getD (T .order) k 0) (statusNumber (status new))) ≡ encode n (withHistory (decode T) (take k (historyOf (decode T)) ++ new ∷ drop (suc k) (historyOf (decode T))) (decode T .view))
   restated-tables k h new r =
-      subst (λ (U : Tables). k < heldCount U → withStatus U (set (U .status) (getD (U .order) k 0) (statusNumber (status new))) ≡ encode n (withHistory (decode T) (take k (historyOf (decode T)) ++ new ∷ drop (suc k) (historyOf (decode T))) (decode T .view))) laid
-      (λ g. restates n (decode T) sound k (rw (held-count n (decode T)) at g) new r) h
+      subst (λ (U : Tables). k < heldCount U → withStatus U (set (U .status) (getD (U .order) k 0) (statusNumber (status new))) ≡ encode n (withHistory (decode T) (take k (historyOf (decode T)) ++ new ∷ drop (suc k) (historyOf (decode T))) (decode T .view))) (facts g .laid)
+      (λ within. restates n (decode T) (facts g .sound) k (rw (held-count n (decode T)) at within) new r) h

@@ -1,13 +1,13 @@
 -- Places, the order list from a position on, and the changes there.
-use mathlib.Core.Path.{_≡_, refl, sym, ap, ap₂, _∙_}
+use mathlib.Core.Path.{_≡_, refl, ap, _∙_}
 use mathlib.Core.List.{List, [], _∷_, _++_}
 use Prim.Native.Nat.{ℕ, zero, suc, _+_}
 use native.Mathlib.Omega.{arith}
-use lib.ListN.{getD, set, take, drop}
-use lib.Seq.{set-getD, getD-set-other}
+use lib.ListN.{getD, take, drop}
+use lib.Seq.{set-getD}
 use Rattle.model.specs.History.{Change}
 use Rattle.model.specs.Cabinet.{blank, changesAt, putAt}
-use Rattle.model.specs.Sound.{Below, NotIn, AllDistinct}
+use Rattle.model.specs.Sound.{Below, AllDistinct}
 
 -- ---- part of the order list
 
@@ -36,11 +36,6 @@ ordered-of order (i ∷ places) k a =
 -- ---- the changes at some places
 
 module _ (changes : List Change) where
-  -- a change put at another place
-  pub changesAt-other : (i : ℕ) (d : Change) (places : List ℕ) → NotIn i places → changesAt (set changes i d) places ≡ changesAt changes places
-  changesAt-other i d [] n = refl
-  changesAt-other i d (j ∷ places) n = ap₂ _∷_ (getD-set-other changes i j d blank (λ e. n .0 (sym e))) (changesAt-other i d places (n .1))
-
   pub changesAt-drop : (places : List ℕ) (k : ℕ) → drop k (changesAt changes places) ≡ changesAt changes (drop k places)
   changesAt-drop places zero = refl
   changesAt-drop [] (suc k) = refl
@@ -52,8 +47,3 @@ module _ (changes : List Change) where
   put-from [] (suc k) new = refl
   put-from (i ∷ places) (suc k) new =
       ap (putAt places (take k (changesAt changes places) ++ new)) (set-getD changes i blank) ∙ put-from places k new
-
-  -- every change put back where it is
-  pub put-back : (places : List ℕ) → putAt places (changesAt changes places) changes ≡ changes
-  put-back [] = refl
-  put-back (i ∷ places) = ap (putAt places (changesAt changes places)) (set-getD changes i blank) ∙ put-back places

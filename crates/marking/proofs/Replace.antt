@@ -16,11 +16,11 @@ use Rattle.model.specs.Cabinet.{Cabinet, blank, changesAt, historyOf, putAt, wi
 use Rattle.model.specs.Tables.{statusNumber, flagNumber, pad, column, padded, blocks, settingsOf, valuesOf, Tables, tables, encode}
 use Rattle.model.specs.Sound.{AllDistinct, Sound}
 use Rattle.model.proofs.Blocks.{column-set, Fits, blocks-set}
-use Rattle.model.proofs.Cabinet.{length-putAt}
+use Rattle.model.proofs.Cabinet.{length-putAt, put-back, changesAt-other}
 use Rattle.model.proofs.Order.{changesAt-get, below-at}
 use Rattle.model.proofs.Tables.{reads-fit, writes-fit, settings-fit, values-fit, order-at}
 use Rattle.marking.specs.Raw.{isLive, replaced, replacedZ}
-use Rattle.marking.proofs.Places.{distinct-drop, changesAt-other, changesAt-drop, put-from, put-back}
+use Rattle.marking.proofs.Places.{distinct-drop, changesAt-drop, put-from}
 use Rattle.marking.proofs.Live.{statuses, Agree}
 use Rattle.marking.proofs.Cabinet.{markedIn, marked-past}
 

@@ -1,5 +1,5 @@
 -- The cabinet by place: what taking in, and another history of the same places, do to the history and to the order list.
-use mathlib.Core.Path.{_≡_, refl, ap, ap₂, _∙_}
+use mathlib.Core.Path.{_≡_, refl, sym, ap, ap₂, _∙_}
 use mathlib.Core.Bool.{Bool, false, cond}
 use mathlib.Core.List.{List, [], _∷_, _++_, map}
 use Prim.Native.Nat.{ℕ, suc, _<_, _≤_}
@@ -7,7 +7,7 @@ use native.Mathlib.Omega.{arith}
 use lib.Dec.{eqb, ltb}
 use lib.IntN.{ℤ}
 use lib.ListN.{length, getD, set, length-append, length-map, length-set, List·getD-append}
-use lib.Seq.{getD-set-same, getD-set-other, getD-append-seam}
+use lib.Seq.{getD-set-same, getD-set-other, getD-append-seam, set-getD, set-set, set-comm}
 use Rattle.machine.proofs.Cases.{by-test, of-choice}
 use Rattle.model.specs.History.{New, empty, Change, change, timestamp, History}
 use Rattle.model.specs.Walk.{insert}
@@ -28,6 +28,12 @@ putAt-other [] new changes i h = refl
 putAt-other (j ∷ places) [] changes i h = refl
 putAt-other (j ∷ places) (c ∷ new) changes i h = putAt-other places new (set changes j c) i (h .1) ∙ getD-set-other changes j i c blank (h .0)
 
+-- a change put at another place
+pub changesAt-other : (changes : List Change) (i : ℕ) (c : Change) (places : List ℕ) → NotIn i places → changesAt (set changes i c) places ≡ changesAt changes places
+changesAt-other changes i c [] n = refl
+changesAt-other changes i c (j ∷ places) n =
+    ap₂ _∷_ (getD-set-other changes i j c blank (λ e. n .0 (sym e))) (changesAt-other changes i c places (n .1))
+
 -- what was put at some places stands there
 changesAt-putAt : (places : List ℕ) (new changes : List Change) → AllDistinct places → Below (length changes) places → length new ≡ length places → changesAt (putAt places new changes) places ≡ new
 changesAt-putAt [] [] changes d b q = refl
@@ -47,6 +53,36 @@ pub withHistory-placed : (c : Cabinet) (h : History) (view : List ℤ) → Place
 withHistory-placed c h view p =
     let n = length-putAt (c .order) h (c .changes) in
     placed-of (withHistory c h view) (rw n (p .counted)) (rw n (p .below)) (p .distinct)
+
+-- ---- a history put back, or replaced twice
+
+-- every change put back where it is
+pub put-back : (changes : List Change) (places : List ℕ) → putAt places (changesAt changes places) changes ≡ changes
+put-back changes [] = refl
+put-back changes (i ∷ places) = ap (putAt places (changesAt changes places)) (set-getD changes i blank) ∙ put-back changes places
+
+-- the order of two puts
+set-put : (places : List ℕ) (new changes : List Change) (i : ℕ) (c : Change) → NotIn i places → set (putAt places new changes) i c ≡ putAt places new (set changes i c)
+set-put [] new changes i c n = refl
+set-put (j ∷ places) [] changes i c n = refl
+set-put (j ∷ places) (d ∷ new) changes i c n = set-put places new (set changes j d) i c (n .1) ∙ ap (putAt places new) (set-comm changes j i d c (λ e. n .0 (sym e)))
+
+put-over : (places : List ℕ) (new old changes : List Change) → AllDistinct places → length new ≡ length places → putAt places new (putAt places old changes) ≡ putAt places new changes
+put-over [] new old changes d q = refl
+put-over (i ∷ places) [] old changes d q = absurd (omega arith)
+put-over (i ∷ places) (b ∷ new) [] changes d q = refl
+put-over (i ∷ places) (b ∷ new) (a ∷ old) changes d q =
+    ap (putAt places new) (set-put places old (set changes i a) i b (d .0))
+    ∙ put-over places new old (set (set changes i a) i b) (d .1) (omega arith)
+    ∙ ap (putAt places new) (set-set changes i a b)
+
+pub same-history : (c : Cabinet) → withHistory c (historyOf c) (c .view) ≡ c
+same-history c = ap (λ (changes : List Change). record { changes = changes; order = c .order; view = c .view }) (put-back (c .changes) (c .order))
+
+pub history-again : (c : Cabinet) (h h' : History) (view view' : List ℤ) → Placed c → length h' ≡ length (historyOf c) → withHistory (withHistory c h view) h' view' ≡ withHistory c h' view'
+history-again c h h' view view' p q =
+    ap (λ (changes : List Change). record { changes = changes; order = c .order; view = view' })
+    (put-over (c .order) h' h (c .changes) (p .distinct) (q ∙ changesAt-length (c .changes) (c .order)))
 
 -- the history with the change of a timestamp withdrawn
 abbrev pub withdrawIn : ℕ → History → History

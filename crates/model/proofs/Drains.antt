@@ -10,7 +10,7 @@ use lib.ListN.{length}
 use Rattle.machine.specs.Settings.{Environment, after}
 use Rattle.model.specs.History.{New, Valid, Invalid, Lists, empty, runLists, Change, change, timestamp, History, allHold}
 use Rattle.model.specs.Figure.{Event, ran, stood, cleared, eventTimestamp, Step, idle, turned, lowestWaiting, roundAt, round}
-use Rattle.model.specs.Drain.{Drain, drainNone, drainMore, drainStep, drainFor, drainHistory}
+use Rattle.model.specs.Drain.{Drain, drainNone, drainMore, drainStep, drainFor, drainHistory, RisingEvents}
 use Rattle.model.specs.Walk.{close, markLive, pass, retry, walk}
 use Rattle.model.specs.Sound.{Rising}
 use Rattle.model.proofs.Round.{WaitsAbove, rising-waits, round-walk}
@@ -77,11 +77,6 @@ walk-ordered env view b (change t p Invalid false l ∷ h) r = go (allHold (l .r
     go false = ordered-first (change t p Invalid false l) h _ p false (runLists env p) (ran t (runLists env p)) refl refl refl (mark-rising _ t h (r .2))
 
 -- ---- a drain's end
-
--- the timestamps of some turns rise above a bound
-abbrev pub RisingEvents : ℕ → List Event → Type 0
-RisingEvents a [] = Unit {0}
-RisingEvents a (e ∷ events) = (a < eventTimestamp e) × RisingEvents (eventTimestamp e) events
 
 record Finished (a : ℕ) (d : Drain) : Type 0 where
   all-valid : AllValid (d .history)

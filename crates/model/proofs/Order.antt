@@ -11,8 +11,8 @@ use lib.Dec.{eqb}
 use lib.ListN.{length, getD}
 use Rattle.machine.proofs.Cases.{by-test}
 use Rattle.model.specs.History.{infinity, Change, timestamp, History}
-use Rattle.model.specs.Cabinet.{Cabinet, blank, changesAt}
-use Rattle.model.specs.Sound.{Rising, Below, NotIn, AllDistinct, In, Placed}
+use Rattle.model.specs.Cabinet.{Cabinet, In, blank, changesAt}
+use Rattle.model.specs.Sound.{Rising, Below, NotIn, AllDistinct, Placed}
 
 -- ---- the changes at some places
 

@@ -1,6 +1,8 @@
 -- The cabinet: changes by place, the order list and the view; what taking in and withdrawing do to it (document 01, "Tables", "Calls").
+use mathlib.Core.Path.{_≡_}
 use mathlib.Core.Bool.{true, false, cond}
 use mathlib.Core.List.{List, [], _∷_, _++_, map}
+use mathlib.Core.Logic.{_⊎_}
 use mathlib.Core.Option.{Option, none, some}
 use Prim.Native.Nat.{ℕ}
 use lib.Dec.{eqb, ltb}
@@ -13,6 +15,11 @@ pub record Cabinet : Type 0 where
   pub changes : List Change
   pub order : List ℕ
   pub view : List ℤ
+
+-- a place stands in a list of places
+abbrev pub In : ℕ → List ℕ → Type 0
+In i [] = ⊥
+In i (j ∷ places) = (i ≡ j) ⊎ In i places
 
 -- nothing held, every setting at its start
 abbrev pub emptyCabinet : Cabinet

@@ -4,7 +4,7 @@ use mathlib.Core.List.{List, [], _∷_, _++_, map}
 use mathlib.Core.Option.{Option, none, some}
 use Prim.Native.Nat.{ℕ}
 use lib.Dec.{eqb}
-use lib.IntN.{ℤ}
+use lib.IntN.{ℤ, pos}
 use lib.ListN.{length, drop}
 use Rattle.machine.specs.Settings.{settingCount, valueIn}
 use Rattle.model.specs.declared.Answer.{Answer}
@@ -22,15 +22,56 @@ use Rattle.model.specs.Figure.{Event, ran, stood, cleared, Step, idle, t
 use Rattle.model.specs.Drain.{Drain, drainHistory, totals}
 use Rattle.model.specs.Cabinet.{Cabinet, emptyCabinet, historyOf, withHistory, find, add, remove}
 use Rattle.model.specs.Tables.{Tables, statusNumber, flagNumber, encode, decode}
-use Rattle.model.specs.Refusals.{test, firstOf, wrongLengths, wrongLength, notInForm, noTimestamp, noTime, noSetting, wrongProgramLength, malformed, isHeld, heldOtherwise, full, notHeld, withdrawnAlready}
+use Rattle.model.specs.Refusals.{test, firstOf, wrongLengths, wrongLength, notInForm, faultOf, noTimestamp, noTime, noSetting, wrongProgramLength, malformed, isHeld, heldOtherwise, full, notHeld, withdrawnAlready}
 use Rattle.model.specs.Package.{Item, taking, withdrawing, layoutFits, itemsOf}
 use Rattle.model.specs.Book.{bookOf, freshEnd}
 
--- the paper's number of an answer: 0 done, 255 already held, else the refusal
+-- ---- answers (document 01, last sentence: "a definition gives this paper's number and values for each of its cases")
+
+-- a refusal gives its number alone; any other answer gives the number of its case and its values
+pub data Given : Type 0 where
+  refused : ℕ → Given
+  given : ℕ → List ℤ → Given
+
+-- 0 done, 255 already held
+abbrev pub answerGiven : Answer → Given
+answerGiven answer.Done = given 0 []
+answerGiven answer.Held = given 255 []
+answerGiven (answer.Refused r) = refused r
+
+-- idle, ran, stood and cleared in this order from 0; the last three name the change's timestamp
+abbrev pub turnedGiven : Turned → Given
+turnedGiven turn-answer.Idle = given 0 []
+turnedGiven (turn-answer.Ran t) = given 1 (pos t ∷ [])
+turnedGiven (turn-answer.Stood t) = given 2 (pos t ∷ [])
+turnedGiven (turn-answer.Cleared t) = given 3 (pos t ∷ [])
+turnedGiven (turn-answer.Refused r) = refused r
+
+-- how many ran, stood and were cleared
+abbrev pub drainedGiven : Drained → Given
+drainedGiven (drain-answer.Counted n) = given 0 (pos (n .ran) ∷ pos (n .stood) ∷ pos (n .cleared) ∷ [])
+drainedGiven (drain-answer.Refused r) = refused r
+
+-- a value
+abbrev pub valueGiven : Value → Given
+valueGiven (value-answer.Is v) = given 0 (v ∷ [])
+valueGiven (value-answer.Refused r) = refused r
+
+-- status and flag
+abbrev pub standingGiven : Standing → Given
+standingGiven (standing-answer.At s f) = given 0 (pos s ∷ pos f ∷ [])
+standingGiven (standing-answer.Refused r) = refused r
+
+-- the number of a refusal or of a case
+abbrev pub numberGiven : Given → ℕ
+numberGiven (refused r) = r
+numberGiven (given k values) = k
+
+-- the answer byte of an entry: 0 done, 255 already held, else the refusal
 abbrev pub answerNumber : Answer → ℕ
-answerNumber answer.Done = 0
-answerNumber answer.Held = 255
-answerNumber (answer.Refused r) = r
+answerNumber a = numberGiven (answerGiven a)
+
+-- ---- replies
 
 -- an answer and the tables after the call
 pub record Reply (A : Type 0) : Type 0 where
@@ -42,11 +83,11 @@ reply a T = record { answer = a; tables = T }
 
 -- the reply of a call whose refusal is r: refused with the tables as they were, or what the call does
 abbrev pub unless : {A : Type 0} → ℕ → (ℕ → A) → Tables → Reply A → Reply A
-unless r refused T reply = cond (eqb r 0) reply (record { answer = refused r; tables = T })
+unless r refusal T done = cond (eqb r 0) done (record { answer = refusal r; tables = T })
 
 -- the same of a call that alters no table
 abbrev pub unlessRead : {A : Type 0} → ℕ → (ℕ → A) → A → A
-unlessRead r refused answer = cond (eqb r 0) answer (refused r)
+unlessRead r refusal done = cond (eqb r 0) done (refusal r)
 
 -- ---- set up
 
@@ -86,7 +127,7 @@ ifDone (answer.Refused r) x y = y
 abbrev pub itemCall : ℕ → Tables → Item → Reply Answer
 itemCall n T i =
     let c = decode T in
-    unless (firstOf (wrongLengths n T ∷ notInForm n T ∷ [])) answer.Refused T
+    unless (faultOf n T) answer.Refused T
     (record { answer = itemAnswer n c i; tables = ifDone (itemAnswer n c i) (encode n (itemDone c i)) T })
 
 unfoldable pub takeIn : ℕ → Tables → ℕ → List ℕ → Reply Answer
@@ -146,7 +187,7 @@ roundOf c = round start (historyOf c) (c .view)
 
 unfoldable pub turn : ℕ → Tables → Reply Turned
 turn n T =
-    unless (firstOf (wrongLengths n T ∷ notInForm n T ∷ [])) turn-answer.Refused T
+    unless (faultOf n T) turn-answer.Refused T
     (stepReply n T (decode T) (roundOf (decode T)))
 
 abbrev pub drainOf : Cabinet → Drain
@@ -156,7 +197,7 @@ unfoldable pub drain : ℕ → Tables → Reply Drained
 drain n T =
     let c = decode T in
     let d = drainOf c in
-    unless (firstOf (wrongLengths n T ∷ notInForm n T ∷ [])) drain-answer.Refused T
+    unless (faultOf n T) drain-answer.Refused T
     (record { answer = drain-answer.Counted (totals (d .events)); tables = encode n (withHistory c (d .history) (d .view)) })
 
 -- ---- the calls that only read

@@ -5,7 +5,7 @@ use mathlib.Core.List.{List, [], _∷_, _++_, map}
 use Prim.Native.Nat.{ℕ, _*_, _/_, _%_}
 use lib.Count.{onesIn}
 use lib.IntN.{ℤ, pos, negsuc}
-use lib.ListN.{replicate}
+use lib.ListN.{length, replicate}
 use Rattle.words.specs.Words.{patternOf, numberOf, wrap, floorDiv, onesOf}
 use Rattle.machine.specs.Settings.{settingCount, named, entries, lookup}
 use Rattle.machine.specs.Instruction.{Program, instructionAt, instructionsFrom, programOf}
@@ -28,8 +28,8 @@ use Rattle.model.specs.Tables.{Tables, pad, encode, decode}
 use Rattle.model.specs.Form.{lengthsFit, inForm}
 use Rattle.model.specs.Refusals.{sameBytes}
 use Rattle.model.specs.Package.{numberAt, countBefore, layoutFits, itemsOf}
-use Rattle.model.specs.Calls.{Reply, setUp, itemAnswer, ifDone, takeIn, withdraw, takeInPackage, eventAnswer, turn, drain, currentValue, valueAsOf, standing}
-use Rattle.model.specs.Log.{drainEvents}
+use Rattle.model.specs.Calls.{Reply, setUp, itemAnswer, ifDone, takeIn, withdraw, takeInPackage, turn, drain, currentValue, valueAsOf, standing}
+use Rattle.model.specs.Log.{drainTurns}
 
 -- ---- programs
 
@@ -61,13 +61,13 @@ alarms s = instruction 15 0 2 0 (pos 1) ∷ instruction 0 0 0 0 (pos 0) ∷ sets
 
 -- ---- the table
 
--- a step of a script: every taking in and withdrawal is to be answered done; the entries of a package are to be answered as listed behind it
+-- a step of a script: every taking in and withdrawal is to be answered done; the entries of a package, a turn and a drain are to be answered as listed behind them
 data Action : Type 0 where
   takesIn : ℕ → Program → Action
   takesInPackage : List ℕ → List ℕ → Action
   withdraws : ℕ → Action
-  turns : Action
-  drains : Action
+  turns : Turned → Action
+  drains : List Turned → Drained → Action
 
 -- what a call answers after the last drain: the current value of s, the value as of t of s, the standing of t
 data Fact : Type 0 where
@@ -86,6 +86,10 @@ record Case : Type 0 where
 abbrev counted : ℕ → ℕ → ℕ → Drained
 counted n m k = Counted (record { ran = n; stood = m; cleared = k })
 
+-- a drain with its turns, all of which ran
+abbrev drainsRunning : List ℕ → Action
+drainsRunning timestamps = drains (map Ran timestamps) (counted (length timestamps) 0 0)
+
 -- nothing held: no turns
 P1 : Case
 P1 = record { script = []; turned = []; answer = counted 0 0 0; facts = [] }
@@ -94,7 +98,7 @@ P1 = record { script = []; turned = []; answer = counted 0 0 0; facts = [] }
 P2 : Case
 P2 =
     record {
-      script = takesIn 20 (sets 34 (pos 5)) ∷ drains ∷ takesIn 10 (sets 34 (pos 7)) ∷ [];
+      script = takesIn 20 (sets 34 (pos 5)) ∷ drainsRunning (20 ∷ []) ∷ takesIn 10 (sets 34 (pos 7)) ∷ [];
       turned = Ran 10 ∷ [];
       answer = counted 1 0 0;
       facts = current 34 (Is (pos 5)) ∷ asOf 15 34 (Is (pos 7)) ∷ [];
@@ -104,7 +108,7 @@ P2 =
 P3 : Case
 P3 =
     record {
-      script = takesIn 20 (copies 34 50) ∷ drains ∷ takesIn 10 (sets 34 (pos 7)) ∷ [];
+      script = takesIn 20 (copies 34 50) ∷ drainsRunning (20 ∷ []) ∷ takesIn 10 (sets 34 (pos 7)) ∷ [];
       turned = Ran 10 ∷ Ran 20 ∷ [];
       answer = counted 2 0 0;
       facts = current 50 (Is (pos 7)) ∷ [];
@@ -114,7 +118,7 @@ P3 =
 P4 : Case
 P4 =
     record {
-      script = takesIn 20 (copies 34 50) ∷ drains ∷ takesIn 10 (sets 34 (pos 0)) ∷ [];
+      script = takesIn 20 (copies 34 50) ∷ drainsRunning (20 ∷ []) ∷ takesIn 10 (sets 34 (pos 0)) ∷ [];
       turned = Ran 10 ∷ [];
       answer = counted 1 0 0;
       facts = current 50 (Is (pos 0)) ∷ [];
@@ -124,7 +128,7 @@ P4 =
 P5 : Case
 P5 =
     record {
-      script = takesIn 20 (sets 34 (pos 5)) ∷ takesIn 30 (copies 34 50) ∷ drains ∷ takesIn 10 (sets 34 (pos 7)) ∷ [];
+      script = takesIn 20 (sets 34 (pos 5)) ∷ takesIn 30 (copies 34 50) ∷ drainsRunning (20 ∷ 30 ∷ []) ∷ takesIn 10 (sets 34 (pos 7)) ∷ [];
       turned = Ran 10 ∷ [];
       answer = counted 1 0 0;
       facts = current 34 (Is (pos 5)) ∷ current 50 (Is (pos 5)) ∷ [];
@@ -134,7 +138,7 @@ P5 =
 P6 : Case
 P6 =
     record {
-      script = takesIn 20 (adds 34 (pos 1)) ∷ drains ∷ takesIn 10 (sets 34 (pos 7)) ∷ [];
+      script = takesIn 20 (adds 34 (pos 1)) ∷ drainsRunning (20 ∷ []) ∷ takesIn 10 (sets 34 (pos 7)) ∷ [];
       turned = Ran 10 ∷ Ran 20 ∷ [];
       answer = counted 2 0 0;
       facts = current 34 (Is (pos 8)) ∷ [];
@@ -145,7 +149,7 @@ P7 : Case
 P7 =
     record {
       script =
-          takesIn 30 (copies 34 50) ∷ drains ∷ takesIn 10 (sets 34 (pos 7)) ∷ turns ∷ takesIn 20 (sets 34 (pos 0)) ∷ [];
+          takesIn 30 (copies 34 50) ∷ drainsRunning (30 ∷ []) ∷ takesIn 10 (sets 34 (pos 7)) ∷ turns (Ran 10) ∷ takesIn 20 (sets 34 (pos 0)) ∷ [];
       turned = Ran 20 ∷ Stood 30 ∷ [];
       answer = counted 1 1 0;
       facts = current 50 (Is (pos 0)) ∷ stands 30 (At 1 0) ∷ [];
@@ -155,7 +159,7 @@ P7 =
 P8 : Case
 P8 =
     record {
-      script = takesIn 10 (sets 34 (pos 7) ++ sets 40 (pos 3)) ∷ drains ∷ withdraws 10 ∷ [];
+      script = takesIn 10 (sets 34 (pos 7) ++ sets 40 (pos 3)) ∷ drainsRunning (10 ∷ []) ∷ withdraws 10 ∷ [];
       turned = Cleared 10 ∷ [];
       answer = counted 0 0 1;
       facts = current 34 (Is (pos 0)) ∷ current 40 (Is (pos 0)) ∷ stands 10 (At 1 1) ∷ [];
@@ -208,7 +212,7 @@ P11-after =
       script =
           takesIn 10 (sets 36 (pos 400))
           ∷ takesIn 30 (subtracts 36 (pos 300) ++ alarms 37)
-          ∷ drains
+          ∷ drainsRunning (10 ∷ 30 ∷ [])
           ∷ takesIn 20 (subtracts 36 (pos 200))
           ∷ [];
       turned = Ran 20 ∷ Ran 30 ∷ [];
@@ -260,23 +264,32 @@ blank =
       view = replicate settingCount (pos 0);
     }
 
--- the tables after some calls, and whether the set up and every taking in, package and withdrawal among them was answered as it is to be
+-- the tables after some calls, whether the set up and every taking in, package and withdrawal among them was answered as it is to be, and the turns and drains among them as they were answered
 record Progress : Type 0 where
   tables : Tables
   done : Bool
+  answered : List Action
 
 -- after a call that is to be answered done
 abbrev follow : Progress → Reply Answer → Progress
-follow s r = record { tables = r .tables; done = ifDone (r .answer) (s .done) false }
+follow s r = record { tables = r .tables; done = ifDone (r .answer) (s .done) false; answered = s .answered }
 
 abbrev carryOut : Action → Progress → Progress
 carryOut (takesIn t p) s = follow s (takeIn capacity (s .tables) t (bytesOf p))
 carryOut (takesInPackage bytes answers) s =
     let r = takeInPackage capacity (s .tables) bytes (replicate 512 0) in
-    record { tables = r .tables; done = ifDone (r .answer) (sameBytes (r .answers) (pad 512 0 answers) && s .done) false }
+    record {
+      tables = r .tables;
+      done = ifDone (r .answer) (sameBytes (r .answers) (pad 512 0 answers) && s .done) false;
+      answered = s .answered;
+    }
 carryOut (withdraws t) s = follow s (withdraw capacity (s .tables) t)
-carryOut turns s = record { tables = turn capacity (s .tables) .tables; done = s .done }
-carryOut drains s = record { tables = drain capacity (s .tables) .tables; done = s .done }
+carryOut (turns a) s =
+    let r = turn capacity (s .tables) in
+    record { tables = r .tables; done = s .done; answered = s .answered ++ (turns (r .answer) ∷ []) }
+carryOut (drains turned a) s =
+    let r = drain capacity (s .tables) in
+    record { tables = r .tables; done = s .done; answered = s .answered ++ (drains (drainTurns capacity (s .tables)) (r .answer) ∷ []) }
 
 abbrev carryOutAll : List Action → Progress → Progress
 carryOutAll [] s = s
@@ -284,7 +297,16 @@ carryOutAll (a ∷ script) s = carryOutAll script (carryOut a s)
 
 -- tables just set up
 abbrev begun : Progress
-begun = follow (record { tables = blank; done = true }) (setUp capacity blank)
+begun = follow (record { tables = blank; done = true; answered = [] }) (setUp capacity blank)
+
+-- the turns and drains of a script, as they are to be answered
+abbrev toAnswer : List Action → List Action
+toAnswer [] = []
+toAnswer (takesIn t p ∷ script) = toAnswer script
+toAnswer (takesInPackage bytes answers ∷ script) = toAnswer script
+toAnswer (withdraws t ∷ script) = toAnswer script
+toAnswer (turns a ∷ script) = turns a ∷ toAnswer script
+toAnswer (drains turned a ∷ script) = drains turned a ∷ toAnswer script
 
 -- the fact as the call answers it
 abbrev asked : Tables → Fact → Fact
@@ -292,9 +314,10 @@ asked T (current s v) = current s (currentValue capacity T s)
 asked T (asOf t s v) = asOf t s (valueAsOf capacity T t s)
 asked T (stands t v) = stands t (standing capacity T t)
 
--- what carrying out a case gives: whether the script was answered as it is to be, the turns of the last drain, its answer, and the facts
+-- what carrying out a case gives: whether the script's items were answered as they are to be, its turns and drains as answered, the turns of the last drain, its answer, and the facts
 record Outcome : Type 0 where
   done : Bool
+  answered : List Action
   turned : List Turned
   answer : Drained
   facts : List Fact
@@ -305,13 +328,14 @@ outcome c =
     let r = drain capacity (s .tables) in
     record {
       done = s .done;
-      turned = map eventAnswer (drainEvents capacity (s .tables));
+      answered = s .answered;
+      turned = drainTurns capacity (s .tables);
       answer = r .answer;
       facts = map (asked (r .tables)) (c .facts);
     }
 
 expected : Case → Outcome
-expected c = record { done = true; turned = c .turned; answer = c .answer; facts = c .facts }
+expected c = record { done = true; answered = toAnswer (c .script); turned = c .turned; answer = c .answer; facts = c .facts }
 
 cases-hold : map outcome cases ≡ map expected cases
 unfolding cases P1 P2 P3 P4 P5 P6 P7 P8 P9 P10 P11-before P11-after sample-package outcome expected setUp takeIn withdraw takeInPackage turn drain currentValue valueAsOf standing itemAnswer layoutFits itemsOf numberAt countBefore encode decode lengthsFit inForm drainHistory drainFor round start runLists run runProgram runFrom step perform effect load store enter named lookup entries lengthFits wellFormed allBelow isWellFormed programOf instructionsFrom instructionAt shiftRight patternOf numberOf wrap floorDiv onesOf onesIn

@@ -1,12 +1,12 @@
 -- A drain: turns until idle (document 01, "A turn").
 use mathlib.Core.List.{List, [], _∷_}
-use Prim.Native.Nat.{ℕ, zero, suc}
+use Prim.Native.Nat.{ℕ, zero, suc, _<_}
 use lib.IntN.{ℤ}
 use lib.ListN.{length}
 use Rattle.machine.specs.Settings.{Environment}
 use Rattle.model.specs.declared.Totals.{Totals}
 use Rattle.model.specs.History.{History}
-use Rattle.model.specs.Figure.{Event, ran, stood, cleared, Step, idle, turned, round}
+use Rattle.model.specs.Figure.{Event, ran, stood, cleared, eventTimestamp, Step, idle, turned, round}
 
 -- the history and the view after some turns, and what the turns did, in order
 pub record Drain : Type 0 where
@@ -32,6 +32,11 @@ drainFor (suc k) env h view = drainStep (drainFor k env) (drainNone h view) (rou
 -- turns until idle: each change has one turn at most, so that as many turns as changes are enough
 unfoldable pub drainHistory : Environment → History → List ℤ → Drain
 drainHistory env h view = drainFor (length h) env h view
+
+-- the timestamps of some turns rise above a bound
+abbrev pub RisingEvents : ℕ → List Event → Type 0
+RisingEvents a [] = Unit {0}
+RisingEvents a (e ∷ events) = (a < eventTimestamp e) × RisingEvents (eventTimestamp e) events
 
 -- how many ran, stood and were cleared
 abbrev pub total : Event → Totals → Totals

@@ -1,4 +1,5 @@
 -- Lengths of the tables, and when tables are in form (document 01, "Tables", refusals 1 and 2).
+use mathlib.Core.Path.{_≡_}
 use mathlib.Core.Bool.{Bool, true, false, not, _&&_, _||_}
 use mathlib.Core.List.{List, [], _∷_}
 use Prim.Native.Nat.{ℕ, _+_, _-_, _*_}
@@ -9,7 +10,7 @@ use Rattle.words.specs.Words.{isZero}
 use Rattle.machine.specs.Settings.{settingCount}
 use Rattle.machine.specs.Form.{allBelow, wellFormed}
 use Rattle.model.specs.History.{isTimestamp}
-use Rattle.model.specs.Tables.{Tables, heldCount, slots}
+use Rattle.model.specs.Tables.{Tables, heldCount, slots, programIn}
 
 -- does every test pass
 abbrev pub every : List Bool → Bool
@@ -73,7 +74,7 @@ abbrev pub programFits : List ℕ → List ℕ → ℕ → Bool
 programFits lengths programs i =
     every
     (leb (getD lengths i 0) 32
-    ∷ wellFormed (slots 256 i (8 * getD lengths i 0) programs)
+    ∷ wellFormed (programIn lengths programs i)
     ∷ allZero (restOf 256 i (8 * getD lengths i 0) programs)
     ∷ [])
 
@@ -140,3 +141,8 @@ formTests n T =
 -- not refusal 2
 unfoldable pub inForm : ℕ → Tables → Bool
 inForm n T = every (formTests n T)
+
+-- tables of the right lengths, in form
+pub record Formed (n : ℕ) (T : Tables) : Type 0 where
+  pub lengths : lengthsFit n T ≡ true
+  pub form : inForm n T ≡ true

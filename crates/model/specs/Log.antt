@@ -1,14 +1,15 @@
 -- Lists of calls: the tables, the book and the turns after them (document 01, "Demand 3 spelled out").
 use mathlib.Core.Bool.{cond}
-use mathlib.Core.List.{List, [], _∷_, _++_}
+use mathlib.Core.List.{List, [], _∷_, _++_, map}
 use Prim.Native.Nat.{ℕ}
 use lib.Dec.{eqb}
 use Rattle.model.specs.Figure.{Event, Step, idle, turned}
 use Rattle.model.specs.Tables.{Tables, decode}
-use Rattle.model.specs.Refusals.{firstOf, wrongLengths, notInForm}
+use Rattle.model.specs.Refusals.{faultOf}
 use Rattle.model.specs.Package.{Item, taking, withdrawing, itemsOf}
 use Rattle.model.specs.Book.{Book, enter, strike}
-use Rattle.model.specs.Calls.{answerNumber, takeIn, withdraw, takeInPackage, turn, drain, roundOf, drainOf}
+use Rattle.model.specs.declared.Turned.{Turned}
+use Rattle.model.specs.Calls.{answerNumber, eventAnswer, takeIn, withdraw, takeInPackage, turn, drain, roundOf, drainOf}
 
 -- the calls that may alter the tables, each with its further arguments as the caller passes them
 pub data Call : Type 0 where
@@ -42,13 +43,17 @@ stepEvents (turned h view e) = e ∷ []
 
 -- none where the call is refused
 abbrev pub unlessRefused : ℕ → Tables → List Event → List Event
-unlessRefused n T events = cond (eqb (firstOf (wrongLengths n T ∷ notInForm n T ∷ [])) 0) events []
+unlessRefused n T events = cond (eqb (faultOf n T) 0) events []
 
 abbrev pub turnEvents : ℕ → Tables → List Event
 turnEvents n T = unlessRefused n T (stepEvents (roundOf (decode T)))
 
 abbrev pub drainEvents : ℕ → Tables → List Event
 drainEvents n T = unlessRefused n T (drainOf (decode T) .events)
+
+-- the turns of a drain as single turns answer them, each with its timestamp
+abbrev pub drainTurns : ℕ → Tables → List Turned
+drainTurns n T = map eventAnswer (drainEvents n T)
 
 -- ---- a list of calls
 

@@ -31,11 +31,15 @@ wrongLengths n T = test 1 (not (lengthsFit n T))
 
 -- the same of a call that is lent one slice more
 abbrev pub wrongLength : ℕ → Tables → ℕ → ℕ → Test
-wrongLength n T length stated = test 1 (not (lengthsFit n T && eqb length stated))
+wrongLength n T lent stated = test 1 (not (lengthsFit n T && eqb lent stated))
 
 -- 2: the tables are not in form
 abbrev pub notInForm : ℕ → Tables → Test
 notInForm n T = test 2 (not (inForm n T))
+
+-- the refusal of the tables themselves: 1, 2, or 0
+abbrev pub faultOf : ℕ → Tables → ℕ
+faultOf n T = firstOf (wrongLengths n T ∷ notInForm n T ∷ [])
 
 -- 4: the timestamp is 0 or 2^64 − 1; value as of allows 2^64 − 1
 abbrev pub noTimestamp : ℕ → Test

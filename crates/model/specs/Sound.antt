@@ -2,13 +2,12 @@
 use mathlib.Core.Path.{_≡_}
 use mathlib.Core.Bool.{true}
 use mathlib.Core.List.{List, [], _∷_}
-use mathlib.Core.Logic.{_⊎_}
 use Prim.Native.Nat.{ℕ, _<_, _≤_}
 use lib.ListN.{length}
 use Rattle.machine.specs.Settings.{settingCount, Bounded}
 use Rattle.machine.specs.Form.{lengthFits, wellFormed}
 use Rattle.model.specs.History.{infinity, New, empty, Change, timestamp, program, status, lists, History}
-use Rattle.model.specs.Cabinet.{Cabinet, historyOf}
+use Rattle.model.specs.Cabinet.{Cabinet, In, historyOf}
 
 -- timestamps rise above a bound, and are below infinity
 abbrev pub Rising : ℕ → History → Type 0
@@ -42,10 +41,6 @@ NotIn i (j ∷ places) = ¬ (i ≡ j) × NotIn i places
 abbrev pub AllDistinct : List ℕ → Type 0
 AllDistinct [] = Unit {0}
 AllDistinct (i ∷ places) = NotIn i places × AllDistinct places
-
-abbrev pub In : ℕ → List ℕ → Type 0
-In i [] = ⊥
-In i (j ∷ places) = (i ≡ j) ⊎ In i places
 
 -- the order list has every held place once
 pub record Placed (c : Cabinet) : Type 0 where

@@ -45,6 +45,30 @@ tables held timestamps order status withdrawn lengths programs reads writes sour
       view = view;
     }
 
+-- ---- the tables after a call, by what it alters of them
+
+-- take in
+abbrev pub withTaking : Tables → List ℕ → List ℕ → List ℕ → List ℕ → List ℕ → Tables
+withTaking T held timestamps order lengths programs =
+    tables held timestamps order (T .status) (T .withdrawn) lengths programs (T .reads) (T .writes) (T .sources) (T .seen) (T .targets) (T .written) (T .view)
+
+-- withdraw
+abbrev pub withWithdrawing : Tables → List ℕ → List ℕ → Tables
+withWithdrawing T status withdrawn =
+    tables (T .held) (T .timestamps) (T .order) status withdrawn (T .lengths) (T .programs) (T .reads) (T .writes) (T .sources) (T .seen) (T .targets) (T .written) (T .view)
+
+-- take in a package
+abbrev pub withPackage : Tables → List ℕ → List ℕ → List ℕ → List ℕ → List ℕ → List ℕ → List ℕ → Tables
+withPackage T held timestamps order status withdrawn lengths programs =
+    tables held timestamps order status withdrawn lengths programs (T .reads) (T .writes) (T .sources) (T .seen) (T .targets) (T .written) (T .view)
+
+-- turn and drain
+abbrev pub withTurn : Tables → List ℕ → List ℕ → List ℕ → List ℕ → List ℤ → List ℕ → List ℤ → List ℤ → Tables
+withTurn T status reads writes sources seen targets written view =
+    tables (T .held) (T .timestamps) (T .order) status (T .withdrawn) (T .lengths) (T .programs) reads writes sources seen targets written view
+
+-- ---- numbers
+
 -- the numbers of a status and of a flag
 abbrev pub statusNumber : Status → ℕ
 statusNumber New = 0
@@ -116,14 +140,22 @@ heldCount T = getD (T .held) 0 0
 abbrev pub slots : {A : Type 0} → ℕ → ℕ → ℕ → List A → List A
 slots width place count l = take count (drop (width * place) l)
 
+-- the program of a place, from the two tables that it stands in
+abbrev pub programIn : List ℕ → List ℕ → ℕ → List ℕ
+programIn lengths programs i = slots 256 i (8 * getD lengths i 0) programs
+
+-- a list of a place, from the three tables that it stands in
+abbrev pub listIn : List ℕ → List ℕ → List ℤ → ℕ → List Entry
+listIn counts settings values i = entries (getD counts i 0) (drop (32 * i) settings) (drop (32 * i) values)
+
 abbrev pub programAt : Tables → ℕ → List ℕ
-programAt T i = slots 256 i (8 * getD (T .lengths) i 0) (T .programs)
+programAt T i = programIn (T .lengths) (T .programs) i
 
 abbrev pub readsAt : Tables → ℕ → List Entry
-readsAt T i = entries (getD (T .reads) i 0) (drop (32 * i) (T .sources)) (drop (32 * i) (T .seen))
+readsAt T i = listIn (T .reads) (T .sources) (T .seen) i
 
 abbrev pub writesAt : Tables → ℕ → List Entry
-writesAt T i = entries (getD (T .writes) i 0) (drop (32 * i) (T .targets)) (drop (32 * i) (T .written))
+writesAt T i = listIn (T .writes) (T .targets) (T .written) i
 
 abbrev pub changeAt : Tables → ℕ → Change
 changeAt T i =

@@ -10,22 +10,22 @@ use Rattle.model.specs.Tables.{Tables, encode, decode}
 use Rattle.model.specs.Package.{Item, entryCount, entryAt, stampOf, kindOf, countOf, bodyAt, itemAt}
 use Rattle.model.specs.Calls.{Reply, answerNumber, reply, itemAnswer, itemStep, itemCall}
 use Rattle.model.specs.Sound.{Sound}
-use Rattle.model.proofs.Tests.{Lengths, lengths-of}
+use Rattle.model.proofs.Tests.{Lengths}
 use Rattle.model.proofs.Tables.{decode-encode}
-use Rattle.model.proofs.Form.{encode-lengths, encode-form, decode-sound}
 use Rattle.model.proofs.Items.{of-answer}
-use Rattle.tables.proofs.Faults.{Faultless}
+use Rattle.model.proofs.Form.{facts, encode-formed}
+use Rattle.model.specs.Form.{Formed}
 use Rattle.packages.proofs.Entries.{laid-out, entry-within, body-within}
 use Rattle.packages.proofs.Items.{item-taking, item-withdrawing}
 use Rattle.packages.proofs.Carried.{Carried, cabinet-sound, carried-none, carried-faultless, carried-length, carried-next}
 use Rattle.packages.proofs.Outcomes.{package-done}
 use Rattle.item_steps.specs.Raw.{TakenItem, WithdrawnItem}
-use Rattle.package_intake.specs.Entries.{ItemTables, itemTables, withItems, Formed, EntryReady, EntryTaken, EntriesReady, EntriesTaken}
+use Rattle.package_intake.specs.Entries.{PartFormed, ItemTables, itemTables, withItems, EntryReady, EntryTaken, EntriesReady, EntriesTaken}
 use Rattle.item_steps.proofs.Items.{item-reply, take-outcome, withdraw-outcome}
 
 -- the lengths of tables in form
-pub formed-lengths : {n : ℕ} {I : ItemTables} (f : Formed n I) → Lengths n (withItems (f .whole) I)
-formed-lengths f = lengths-of _ _ (f .faultless .0)
+pub formed-lengths : {n : ℕ} {I : ItemTables} (f : PartFormed n I) → Lengths n (withItems (f .whole) I)
+formed-lengths f = facts (f .faultless) .lengths
 
 -- ---- one entry
 
@@ -60,7 +60,7 @@ module _ {n j t : ℕ} {bytes : List ℕ} {I : ItemTables} {a : Answer} (stamped
 -- an item called on tables that hold a sound cabinet: its answer, and the cabinet after it
 next-item : {n : ℕ} {c : Cabinet} {T U : Tables} (i : Item) {a : Answer} → Sound n c → T ≡ encode n c → reply a U ≡ itemCall n T i → (a ≡ itemAnswer n c i) × (U ≡ encode n (itemStep n c i))
 next-item {n} {c} {T} {U} i {a} s e q =
-    let called = rw (e, encode-lengths n c s, encode-form n c s, decode-encode n c s) at q in (
+    let called = rw (e, encode-formed s .lengths, encode-formed s .form, decode-encode n c s) at q in (
       ap (λ (r : Reply Answer). r .answer) called,
       ap (λ (r : Reply Answer). r .tables) called ∙ sym (of-answer (encode n) (itemAnswer n c i) refl refl),
     )
@@ -69,7 +69,7 @@ next-item {n} {c} {T} {U} i {a} s e q =
 
 -- after the entries before entry j, from the tables and the answer bytes lent
 pub record EntriesBefore (n : ℕ) (bytes lent : List ℕ) (I : ItemTables) (j body : ℕ) (I' : ItemTables) (answers : List ℕ) : Type 0 where
-  pub carried : (T : Tables) → Faultless n (withItems T I) → Carried n (decode (withItems T I)) bytes lent j body (withItems T I') answers
+  pub carried : (T : Tables) → Formed n (withItems T I) → Carried n (decode (withItems T I)) bytes lent j body (withItems T I') answers
 
 module _ {n : ℕ} {bytes lent : List ℕ} {I : ItemTables} (r : EntriesReady n bytes lent I) where
   -- before the first entry
@@ -78,11 +78,11 @@ module _ {n : ℕ} {bytes lent : List ℕ} {I : ItemTables} (r : EntriesReady n 
 
   module _ {j body : ℕ} {I' : ItemTables} {answers : List ℕ} (k : EntriesBefore n bytes lent I j body I' answers) where
     -- the tables are still in form
-    pub still-formed : Formed n I'
+    pub still-formed : PartFormed n I'
     still-formed =
         let f = r .formed in
         let g = f .faultless in
-        record { whole = f .whole; faultless = carried-faultless (k .carried (f .whole) g) (decode-sound n (withItems (f .whole) I) (g .0) (g .1)) }
+        record { whole = f .whole; faultless = carried-faultless (k .carried (f .whole) g) (facts g .sound) }
 
     -- the answer bytes are as many as were lent
     pub still-sized : length answers ≡ length lent
@@ -108,7 +108,7 @@ module _ {n : ℕ} {bytes lent : List ℕ} {I : ItemTables} (r : EntriesReady n 
         record {
           carried = λ T g.
               let c = k .carried T g in
-              let s = decode-sound n (withItems T I) (g .0) (g .1) in
+              let s = facts g .sound in
               let m = next-item (itemAt bytes j) (cabinet-sound n (decode (withItems T I)) bytes j s) (c .tables) (e .taken T (carried-faultless c s)) in
               subst (λ (q : ℕ). Carried n (decode (withItems T I)) bytes lent (j + 1) (body + 8 * count) (withItems T U) (set answers j q)) (sym numbered)
               (carried-next c h (omega (arith, r .sized, laid-out bytes (r .laid-out) .few)) counted refl (m .0) (m .1));

@@ -1,8 +1,8 @@
 // Taking in a package: its entries carried out on tables in form, and the call.
+use answer_numbers::answer_number;
 use item_steps::take_item;
 use item_steps::withdraw_item;
 use model::Answer;
-use numbers::answer_number;
 use packages::count_at;
 use packages::entry_at;
 use packages::entry_count;

@@ -12,9 +12,9 @@ use Rattle.model.specs.Tables.{Tables, encode, decode}
 use Rattle.model.specs.Package.{Item, entryCount, entryAt, countOf, bodyAt, itemAt, itemsOf}
 use Rattle.model.specs.Calls.{answerNumber, itemAnswer, itemStep, itemAnswers, itemSteps}
 use Rattle.model.specs.Sound.{Sound}
-use Rattle.model.proofs.Form.{encode-lengths, encode-form, encode-decode}
+use Rattle.model.proofs.Form.{facts, encode-formed}
 use Rattle.model.proofs.Items.{items-sound, length-itemAnswers}
-use Rattle.tables.proofs.Faults.{Faultless}
+use Rattle.model.specs.Form.{Formed}
 use Rattle.packages.proofs.Entries.{body-first, body-next}
 use Rattle.packages.proofs.Items.{items-count, items-all, items-next}
 
@@ -74,21 +74,21 @@ pub record Carried (n : ℕ) (c : Cabinet) (bytes lent : List ℕ) (j body : ℕ
   pub answered : answers ≡ numbersAt n c bytes j ++ drop j lent
 
 -- before the first entry
-pub carried-none : (n : ℕ) (T : Tables) (bytes lent : List ℕ) {body : ℕ} → Faultless n T → body ≡ entryAt (entryCount bytes) → Carried n (decode T) bytes lent 0 body T lent
+pub carried-none : (n : ℕ) (T : Tables) (bytes lent : List ℕ) {body : ℕ} → Formed n T → body ≡ entryAt (entryCount bytes) → Carried n (decode T) bytes lent 0 body T lent
 carried-none n T bytes lent g e =
     record {
       within = omega arith;
       body-at = e ∙ sym (body-first bytes);
-      tables = sym (encode-decode n T (g .0) (g .1));
+      tables = sym (facts g .laid);
       answered = refl;
     }
 
 module _ {n : ℕ} {c : Cabinet} {bytes lent : List ℕ} {j body : ℕ} {T : Tables} {answers : List ℕ} (k : Carried n c bytes lent j body T answers) where
   -- the tables are in form
-  pub carried-faultless : Sound n c → Faultless n T
+  pub carried-faultless : Sound n c → Formed n T
   carried-faultless s =
       let s' = cabinet-sound n c bytes j s in
-      subst (Faultless n) (sym (k .tables)) (encode-lengths n (cabinetAt n c bytes j) s', encode-form n (cabinetAt n c bytes j) s')
+      subst (Formed n) (sym (k .tables)) (encode-formed s')
 
   -- the answer bytes are as many as were lent
   pub carried-length : entryCount bytes ≤ length lent → length answers ≡ length lent

@@ -15,19 +15,18 @@ use Rattle.model.specs.declared.Value.the-variants as value
 use Rattle.model.specs.declared.Standing.the-variants as standing-at
 use Rattle.model.specs.History.{infinity, isTimestamp, start, allSettings}
 use Rattle.model.specs.Tables.{Tables, heldCount, decode}
-use Rattle.model.specs.Form.{lengthsFit}
-use Rattle.model.specs.Refusals.{noTimestamp, noTime, noSetting, notHeld}
+use Rattle.model.specs.Form.{lengthsFit, Formed}
+use Rattle.model.specs.Refusals.{noTimestamp, noTime, noSetting, notHeld, faultOf}
 use Rattle.model.specs.Calls.{currentValue, valueAsOf, standing, plainReply, plainRun}
-use Rattle.model.proofs.Tests.{lengths-of, form-of}
 use Rattle.model.proofs.Tables.{status-at, withdrawn-at}
-use Rattle.model.proofs.Form.{encode-decode}
-use Rattle.search.specs.Raw.{Placed}
+use Rattle.model.proofs.Form.{facts}
+use Rattle.search.specs.Searches.{PlacesWithin}
 use Rattle.search.proofs.Steps.{rank-within}
 use Rattle.search.proofs.Model.{rankIn, positionIn, placed-writes, place-of, position-none, position-some, as-of}
-use Rattle.fresh.specs.Raw.{heldRun}
+use Rattle.fresh.specs.HeldRuns.{heldRun}
 use Rattle.fresh.proofs.Model.{held-fresh}
 use Rattle.execution.specs.Raw.{valuesBelow}
-use Rattle.tables.proofs.Faults.{faultOf, Faultless, faulty}
+use Rattle.tables.proofs.Faults.{faulty}
 
 -- ---- current value
 
@@ -36,14 +35,14 @@ module _ (n : ℕ) (T : Tables) (s : ℕ) where
   unfolding currentValue
   current-fault e f = rw (faulty n T e (noSetting s ∷ []) f, ne-eqb _ 0 f)
 
-  module _ (g : Faultless n T) where
+  module _ (g : Formed n T) where
     pub current-no-setting : settingCount ≤ s → value.Refused 5 ≡ currentValue n T s
     unfolding currentValue
-    current-no-setting h = rw (g .0, g .1, le-leb settingCount s h)
+    current-no-setting h = rw (g .lengths, g .form, le-leb settingCount s h)
 
     pub current-is : s < settingCount → value.Is (valueIn (T .view) s) ≡ currentValue n T s
     unfolding currentValue
-    current-is h = rw (g .0, g .1, lt-leb settingCount s h)
+    current-is h = rw (g .lengths, g .form, lt-leb settingCount s h)
 
 -- ---- value as of
 
@@ -52,22 +51,22 @@ module _ (n : ℕ) (T : Tables) (t s : ℕ) where
   unfolding valueAsOf
   as-of-fault e f = rw (faulty n T e (noTime t ∷ noSetting s ∷ []) f, ne-eqb _ 0 f)
 
-  module _ (g : Faultless n T) where
+  module _ (g : Formed n T) where
     pub as-of-no-time : t ≡ 0 → value.Refused 4 ≡ valueAsOf n T t s
     unfolding valueAsOf
-    as-of-no-time h = rw (g .0, g .1, eq-eqb t 0 h)
+    as-of-no-time h = rw (g .lengths, g .form, eq-eqb t 0 h)
 
     pub as-of-no-setting : (t ≡ 0 → ⊥) → settingCount ≤ s → value.Refused 5 ≡ valueAsOf n T t s
     unfolding valueAsOf
-    as-of-no-setting h l = rw (g .0, g .1, ne-eqb t 0 h, le-leb settingCount s l)
+    as-of-no-setting h l = rw (g .lengths, g .form, ne-eqb t 0 h, le-leb settingCount s l)
 
     pub as-of-is : {k : ℕ} {v : ℤ} → (t ≡ 0 → ⊥) → s < settingCount → k ≡ rankIn T t → v ≡ valuesBelow (T .order) (T .writes) (T .targets) (T .written) k s → value.Is v ≡ valueAsOf n T t s
     unfolding valueAsOf
-    as-of-is h l r b = rw (g .0, g .1, ne-eqb t 0 h, lt-leb settingCount s l, b, r) (ap value.Is (sym (as-of n T (g .0) (g .1) start s t)))
+    as-of-is h l r b = rw (g .lengths, g .form, ne-eqb t 0 h, lt-leb settingCount s l, b, r) (ap value.Is (sym (as-of g start s t)))
 
 -- the search below a rank is within the tables
-pub as-of-placed : (n : ℕ) (T : Tables) (t : ℕ) → Faultless n T → {k : ℕ} → k ≡ rankIn T t → Placed k (T .order) (length (T .writes))
-as-of-placed n T t g {k} r = placed-writes n T (g .0) (g .1) k (omega (arith, r, rank-within (T .order) (T .timestamps) t (heldCount T)))
+pub as-of-placed : (n : ℕ) (T : Tables) (t : ℕ) → Formed n T → {k : ℕ} → k ≡ rankIn T t → PlacesWithin k (T .order) (length (T .writes))
+as-of-placed n T t g {k} r = placed-writes g k (omega (arith, r, rank-within (T .order) (T .timestamps) t (heldCount T)))
 
 -- ---- standing
 
@@ -90,20 +89,20 @@ module _ (n : ℕ) (T : Tables) (t : ℕ) where
   unfolding standing
   standing-fault e f = rw (faulty n T e (noTimestamp t ∷ notHeld (decode T) t ∷ []) f, ne-eqb _ 0 f)
 
-  module _ (g : Faultless n T) where
+  module _ (g : Formed n T) where
     pub standing-no-timestamp : isTimestamp t ≡ false → standing-at.Refused 4 ≡ standing n T t
     unfolding standing
-    standing-no-timestamp h = rw (g .0, g .1, h)
+    standing-no-timestamp h = rw (g .lengths, g .form, h)
 
     pub standing-not-held : isTimestamp t ≡ true → positionIn T t ≡ none → standing-at.Refused 10 ≡ standing n T t
     unfolding standing
-    standing-not-held h p = rw (g .0, g .1, h, position-none n T (g .0) (g .1) t p)
+    standing-not-held h p = rw (g .lengths, g .form, h, position-none g t p)
 
     pub position-within : {k : ℕ} → positionIn T t ≡ some k → Within T k
     position-within {k} p =
-        let l = lengths-of n T (g .0) in
-        let f = form-of n T (g .1) in
-        let below = position-some n T (g .0) (g .1) t k p .0 in
+        let l = facts g .lengths in
+        let f = facts g .form in
+        let below = position-some g t k p .0 in
         let place = f .places k below in
         record {
           position = omega (arith, l .capacity, f .small);
@@ -117,9 +116,9 @@ module _ (n : ℕ) (T : Tables) (t : ℕ) where
     unfolding standing
     standing-held {k} h p =
         let place = getD (decode T .order) k 0 in
-        let laid = sym (encode-decode n T (g .0) (g .1)) in
-        let here = place-of n T (g .0) (g .1) k in
-        rw (g .0, g .1, h, position-some n T (g .0) (g .1) t k p .1)
+        let laid = sym (facts g .laid) in
+        let here = place-of g k in
+        rw (g .lengths, g .form, h, position-some g t k p .1)
         (ap₂ standing-at.At (ap₂ (λ (U : Tables) (i : ℕ). getD (U .status) i 0) laid here ∙ status-at n (decode T) place) (ap₂ (λ (U : Tables) (i : ℕ). getD (U .withdrawn) i 0) laid here ∙ withdrawn-at n (decode T) place))
 
 -- ---- plain run
@@ -134,6 +133,6 @@ module _ (n : ℕ) (T : Tables) (settings : List ℤ) where
     unfolding plainRun
     plain-fault e f = rw (eq-eqb _ settingCount l, and-true (lengthsFit n T), ← e, ne-eqb _ 0 f)
 
-    pub plain-done : {values : List ℤ} → Faultless n T → values ≡ heldRun (T .order) (T .withdrawn) (T .lengths) (T .programs) (allSettings start) (heldCount T) → plainReply answer.Done values ≡ plainRun n T settings
+    pub plain-done : {values : List ℤ} → Formed n T → values ≡ heldRun (T .order) (T .withdrawn) (T .lengths) (T .programs) (allSettings start) (heldCount T) → plainReply answer.Done values ≡ plainRun n T settings
     unfolding plainRun
-    plain-done g h = rw (eq-eqb _ settingCount l, g .0, g .1) (ap (plainReply answer.Done) (h ∙ held-fresh n T (g .0) (g .1) start))
+    plain-done g h = rw (eq-eqb _ settingCount l, g .lengths, g .form) (ap (plainReply answer.Done) (h ∙ held-fresh g start))

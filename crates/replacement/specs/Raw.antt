@@ -5,8 +5,7 @@ use Prim.Native.Nat.{ℕ, _+_, _-_, _*_, _<_, _≤_}
 use lib.IntN.{ℤ, pos}
 use lib.ListN.{length, getD, set, take, replicate}
 use Rattle.machine.specs.Settings.{settingCount}
-use Rattle.search.specs.Raw.{Placed}
-use Rattle.search.specs.Raw as search
+use Rattle.search.specs.Searches.{PlacesWithin, WriteLists}
 use Rattle.execution.specs.Raw.{oldValues, newValues, markedLive, markedValues}
 use Rattle.marking.specs.Raw.{listAt, markedStatus, liveAfter, followed, replaced, replacedZ, Walkable}
 use Rattle.acts.specs.Raw.{Positioned}
@@ -20,8 +19,8 @@ pub record Propagable (k count : ℕ) (order status reads sources writes targets
   pub short : getD writes (getD order k 0) 0 ≤ 32
   pub settings : (i : ℕ) → i < length (listAt writes targets (getD order k 0)) → getD (listAt writes targets (getD order k 0)) i 0 < settingCount
   pub walkable : Walkable count order (length status) reads sources writes targets
-  pub placed : Placed k order (length writes)
-  pub listed : search.Listed writes targets written
+  pub placed : PlacesWithin k order (length writes)
+  pub listed : WriteLists writes targets written
 
 -- ---- the settings that change where the writes at a position are replaced by the first size of new ones
 

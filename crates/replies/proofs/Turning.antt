@@ -20,11 +20,11 @@ use Rattle.model.specs.Log.{drainEvents}
 use Rattle.model.specs.Sound.{Sound}
 use Rattle.model.proofs.Cabinet.{withHistory-history}
 use Rattle.model.proofs.Figure.{drain-idle, drain-next}
-use Rattle.model.proofs.Form.{encode-lengths, encode-form, decode-sound}
+use Rattle.model.proofs.Form.{encode-lengths, encode-form, facts}
 use Rattle.model.proofs.Keeps.{StepKeeps, Keeps, keeps-length, round-keeps, round-sound}
 use Rattle.model.proofs.Order.{changesAt-length}
 use Rattle.model.proofs.Tables.{decode-encode}
-use Rattle.tables.proofs.Faults.{Faultless}
+use Rattle.model.specs.Form.{Formed}
 use Rattle.checker.specs.Raw.{goesOn}
 use Rattle.checker.proofs.Drains.{event-goes-on, drain-within}
 use Rattle.lines.specs.Lines.{turnLine}
@@ -32,20 +32,20 @@ use Rattle.replies.specs.Replies.{capacity, turnLines}
 
 -- ---- the drain of tables in form
 
-module _ (T : Tables) (g : Faultless capacity T) where
+module _ (T : Tables) (g : Formed capacity T) where
   sound : Sound capacity (decode T)
-  sound = decode-sound capacity T (g .0) (g .1)
+  sound = facts g .sound
 
   events-are : drainEvents capacity T ≡ drainOf (decode T) .events
-  events-are = rw (g .0, g .1)
+  events-are = rw (g .lengths, g .form)
 
   view-is : drain capacity T .tables .view ≡ drainOf (decode T) .view
   unfolding drain encode
-  view-is = rw (g .0, g .1)
+  view-is = rw (g .lengths, g .form)
 
   turn-is : turn capacity T ≡ stepReply capacity T (decode T) (roundOf (decode T))
   unfolding turn
-  turn-is = rw (g .0, g .1)
+  turn-is = rw (g .lengths, g .form)
 
   pub few-turns : length (drainEvents capacity T) ≤ 128
   unfolding drainHistory
@@ -72,7 +72,7 @@ module _ (T : Tables) (g : Faultless capacity T) where
     abbrev left : Tables
     left = encode capacity next
 
-    left-faultless : Faultless capacity left
+    left-faultless : Formed capacity left
     left-faultless = let n = round-sound sound q in (encode-lengths capacity next n, encode-form capacity next n)
 
     drain-left : drainOf (decode T) ≡ drainMore e (drainOf (decode left))
@@ -81,7 +81,7 @@ module _ (T : Tables) (g : Faultless capacity T) where
         drain-next start (historyOf (decode T)) (decode T .view) (sound .rising) q
         ∙ ap (drainMore e) (sym (ap drainOf (decode-encode capacity next (round-sound sound q)) ∙ ap (λ (g : History). drainHistory start g view) (withHistory-history (decode T) h view (sound .placed) (keeps-length keeps))))
 
-module _ (T : Tables) (g : Faultless capacity T) {h : History} {view : List ℤ} {e : Event} (q : roundOf (decode T) ≡ turned h view e) where
+module _ (T : Tables) (g : Formed capacity T) {h : History} {view : List ℤ} {e : Event} (q : roundOf (decode T) ≡ turned h view e) where
   events-left : drainEvents capacity T ≡ e ∷ drainEvents capacity (left T g q)
   events-left = events-are T g ∙ ap (λ (d : Drain). d .events) (drain-left T g q) ∙ ap (λ (l : List Event). e ∷ l) (sym (events-are (left T g q) (left-faultless T g q)))
 
@@ -96,7 +96,7 @@ turnsLeft T going = cond going (suc (length (drainEvents capacity T))) 0
 
 -- lines of the turns so far are put; with those of the turns left they are the lines of the whole drain
 pub record Turning (T₀ : Tables) (at : ℕ) (before : List ℕ) (T : Tables) (text : List ℕ) (end : ℕ) (going : Bool) : Type 0 where
-  pub faultless : Faultless capacity T
+  pub faultless : Formed capacity T
   pub lines : List ℕ
   pub put : Put at lines before text end
   pub whole : lines ++ turnLines (drainEvents capacity T) ≡ turnLines (drainEvents capacity T₀)
@@ -105,7 +105,7 @@ pub record Turning (T₀ : Tables) (at : ℕ) (before : List ℕ) (T : Tables) (
   pub same : length text ≡ length before
   pub ended : going ≡ false → roundOf (decode T) ≡ idle
 
-pub turning-begins : (T : Tables) (at : ℕ) (text : List ℕ) → Faultless capacity T → Turning T at text T text at true
+pub turning-begins : (T : Tables) (at : ℕ) (text : List ℕ) → Formed capacity T → Turning T at text T text at true
 turning-begins T at text g =
     record { faultless = g; lines = []; put = put-nothing at text; whole = refl; short = omega arith; view = refl; same = refl; ended = λ e. true-is-not-false e }
 
@@ -149,7 +149,7 @@ module _ {T₀ : Tables} {at : ℕ} {before : List ℕ} {T : Tables} {text : Lis
         rw (d, t) both
 
   -- there is room for another line
-  pub turning-short : Faultless capacity T₀ → end ≤ at + 8192
+  pub turning-short : Formed capacity T₀ → end ≤ at + 8192
   turning-short g = omega (arith, k .short, few-turns T₀ g)
 
   -- after the idle turn

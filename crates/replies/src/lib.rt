@@ -1,4 +1,5 @@
 // The reply to a package as text: its entries, the turns of one drain, and the settings that are not 0.
+use answer_numbers::answer_number;
 use checker::goes_on;
 use history::Answer;
 use history::turn;
@@ -6,7 +7,6 @@ use lines::put_entry;
 use lines::put_refusal;
 use lines::put_setting;
 use lines::put_turn;
-use numbers::answer_number;
 use packages::entry_count;
 use packages::kind_at;
 ghost use mathlib.Core.Path.{_≡_};

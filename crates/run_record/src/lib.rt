@@ -10,10 +10,9 @@ ghost use mathlib.Core.List.{List};
 ghost use lib.IntN.{ℤ};
 ghost use lib.ListN.{length, set};
 ghost use Rattle.machine.specs.declared.Effect.the-variants.{Load, Store};
-ghost use Rattle.machine.specs.Settings.{Environment, named, entries};
+ghost use Rattle.machine.specs.Settings.{Environment, everywhere, named, entries};
 ghost use Rattle.machine.specs.Form.{isBelow};
 ghost use Rattle.machine.specs.Run.{effect, perform, wanted, settingOr};
-ghost use Rattle.machine.proofs.Step.{everywhere};
 ghost use Rattle.run_record.specs.Record.{pick, resultOf, distanceOf, begun, assigned, advanced, ended, enteredRead, enteredWrite, Operands, Performable, lists, Sized, stateOf, Ready, Stepped};
 
 // A run between two instructions.

@@ -8,7 +8,7 @@ use Rattle.search.specs.declared.Found.{Found}
 use Rattle.search.specs.declared.Found.the-variants as found
 use Rattle.search.specs.declared.Written.{Written}
 use Rattle.search.specs.declared.Written.the-variants as written
-use Rattle.search.specs.Raw.{foundOf, writtenOf}
+use Rattle.search.specs.Searches.{foundOf, writtenOf}
 
 pub found-at : (x : Option ℕ) {f : Found} {k : ℕ} → f ≡ foundOf x → f ≡ found.At k → x ≡ some k
 found-at none p q = absurd (let z : _≡_ {A = ℕ} 0 1 = cc in omega arith)

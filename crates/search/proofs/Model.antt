@@ -1,6 +1,6 @@
 -- The searches in tables that are in form, as questions to the history that the tables hold.
 use mathlib.Core.Path.{_≡_, refl, sym, ap, subst, _∙_}
-use mathlib.Core.Bool.{true, _&&_}
+use mathlib.Core.Bool.{_&&_}
 use mathlib.Core.List.{List, [], _∷_}
 use mathlib.Core.Option.{Option, none, some}
 use Prim.Native.Nat.{ℕ, zero, suc, _≤_, _<_}
@@ -14,15 +14,14 @@ use Rattle.machine.proofs.Cases.{by-test, true-is-not-false, both}
 use Rattle.machine.proofs.Settings.{or-if-else}
 use Rattle.model.specs.History.{Change, timestamp, lists, History, afterAll, asOf}
 use Rattle.model.specs.Cabinet.{blank, historyOf, find}
-use Rattle.model.specs.Tables.{Tables, heldCount, writesAt, encode, decode}
-use Rattle.model.specs.Form.{lengthsFit, timestampOf, inForm}
-use Rattle.model.specs.Sound.{AllSound, Sound}
-use Rattle.model.proofs.Tests.{Lengths, FormTests, lengths-of, form-of}
+use Rattle.model.specs.Tables.{Tables, heldCount, writesAt, decode, listIn}
+use Rattle.model.specs.Form.{timestampOf, Formed}
+use Rattle.model.specs.Sound.{AllSound}
 use Rattle.model.proofs.Figure.{NoneBelow}
 use Rattle.model.proofs.Order.{changesAt-length, changesAt-get}
 use Rattle.model.proofs.Tables.{held-count, timestamp-at, order-at, writes-at, writes-back}
-use Rattle.model.proofs.Form.{decode-sound, encode-decode}
-use Rattle.search.specs.Raw.{Placed, Listed, rankOf, positionOf, writesIn, previousWrite}
+use Rattle.model.proofs.Form.{facts}
+use Rattle.search.specs.Searches.{PlacesWithin, WriteLists, rankOf, positionOf, previousWrite}
 use Rattle.search.proofs.Steps.{rank-within}
 use Rattle.search.proofs.Split.{Split, below-up-to, none-below-from, find-here, find-nowhere, after-next, split-as-of}
 
@@ -48,56 +47,44 @@ positionIn T t = positionOf (T .order) (T .timestamps) t (heldCount T)
 abbrev pub previousIn : Tables → ℕ → ℕ → Option ℤ
 previousIn T s k = previousWrite (T .order) (T .writes) (T .targets) (T .written) s k
 
-module _ (n : ℕ) (T : Tables) (e : lengthsFit n T ≡ true) (q : inForm n T ≡ true) where
+module _ {n : ℕ} {T : Tables} (g : Formed n T) where
   -- ---- what the searches require
 
-  lengths : Lengths n T
-  lengths = lengths-of n T e
-
-  form : FormTests n T
-  form = form-of n T q
-
-  sound : Sound n (decode T)
-  sound = decode-sound n T e q
-
-  laid : encode n (decode T) ≡ T
-  laid = encode-decode n T e q
-
-  placed : (k limit : ℕ) → k ≤ heldCount T → limit ≡ n → Placed k (T .order) limit
+  placed : (k limit : ℕ) → k ≤ heldCount T → limit ≡ n → PlacesWithin k (T .order) limit
   placed k limit h m =
-      record { long = omega (arith, lengths .order, form .small); below = λ j l. omega (arith, form .places j (omega arith), form .small) }
+      record { long = omega (arith, facts g .lengths .order, facts g .form .small); below = λ j l. omega (arith, facts g .form .places j (omega arith), facts g .form .small) }
 
   -- for `rank` and `position`
-  pub placed-stamps : Placed (heldCount T) (T .order) (length (T .timestamps))
-  placed-stamps = placed (heldCount T) (length (T .timestamps)) (omega arith) (lengths .timestamps)
+  pub placed-stamps : PlacesWithin (heldCount T) (T .order) (length (T .timestamps))
+  placed-stamps = placed (heldCount T) (length (T .timestamps)) (omega arith) (facts g .lengths .timestamps)
 
   -- for `previous_write`
-  pub placed-writes : (k : ℕ) → k ≤ heldCount T → Placed k (T .order) (length (T .writes))
-  placed-writes k h = placed k (length (T .writes)) h (lengths .writes)
+  pub placed-writes : (k : ℕ) → k ≤ heldCount T → PlacesWithin k (T .order) (length (T .writes))
+  placed-writes k h = placed k (length (T .writes)) h (facts g .lengths .writes)
 
-  pub listed : Listed (T .writes) (T .targets) (T .written)
+  pub listed : WriteLists (T .writes) (T .targets) (T .written)
   listed =
       record {
-        capacity = omega (arith, lengths .writes, lengths .capacity);
-        target-slots = omega (arith, lengths .writes, lengths .targets);
-        value-slots = omega (arith, lengths .writes, lengths .written);
-        short = λ i. rw (← laid, writes-at n (decode T) i) (short-writes (decode T .changes) i (sound .each));
+        capacity = omega (arith, facts g .lengths .writes, facts g .lengths .capacity);
+        target-slots = omega (arith, facts g .lengths .writes, facts g .lengths .targets);
+        value-slots = omega (arith, facts g .lengths .writes, facts g .lengths .written);
+        short = λ i. rw (← (facts g .laid), writes-at n (decode T) i) (short-writes (decode T .changes) i (facts g .sound .each));
       }
 
   -- ---- the tables and the history
 
   pub held-changes : length (decode T .changes) ≡ heldCount T
-  held-changes = sym (held-count n (decode T)) ∙ ap heldCount laid
+  held-changes = sym (held-count n (decode T)) ∙ ap heldCount (facts g .laid)
 
   pub history-length : length (historyIn T) ≡ heldCount T
-  history-length = changesAt-length (decode T .changes) (decode T .order) ∙ sound .placed .counted ∙ held-changes
+  history-length = changesAt-length (decode T .changes) (decode T .order) ∙ facts g .sound .placed .counted ∙ held-changes
 
   pub place-of : (k : ℕ) → getD (T .order) k 0 ≡ getD (decode T .order) k 0
-  place-of k = ap (λ (U : Tables). getD (U .order) k 0) (sym laid) ∙ order-at n (decode T) k
+  place-of k = ap (λ (U : Tables). getD (U .order) k 0) (sym (facts g .laid)) ∙ order-at n (decode T) k
 
   module _ (k : ℕ) (h : k < heldCount T) where
     pub change-of : getD (historyIn T) k blank ≡ getD (decode T .changes) (getD (decode T .order) k 0) blank
-    change-of = changesAt-get (decode T .changes) (decode T .order) k (omega (arith, sound .placed .counted, held-changes))
+    change-of = changesAt-get (decode T .changes) (decode T .order) k (omega (arith, facts g .sound .placed .counted, held-changes))
 
     -- the change at a position of the order list
     pub by-place : getD (decode T .changes) (getD (T .order) k 0) blank ≡ getD (historyIn T) k blank
@@ -105,14 +92,14 @@ module _ (n : ℕ) (T : Tables) (e : lengthsFit n T ≡ true) (q : inForm n T �
 
     stamped : stampIn T k ≡ timestamp (getD (historyIn T) k blank)
     stamped =
-        ap (λ (U : Tables). getD (U .timestamps) (getD (T .order) k 0) 0) (sym laid)
+        ap (λ (U : Tables). getD (U .timestamps) (getD (T .order) k 0) 0) (sym (facts g .laid))
         ∙ timestamp-at n (decode T) (getD (T .order) k 0)
         ∙ ap timestamp by-place
 
-    pub wrote : writesIn (T .writes) (T .targets) (T .written) (getD (T .order) k 0) ≡ lists (getD (historyIn T) k blank) .writes
+    pub wrote : listIn (T .writes) (T .targets) (T .written) (getD (T .order) k 0) ≡ lists (getD (historyIn T) k blank) .writes
     wrote =
-        ap (λ (U : Tables). writesAt U (getD (T .order) k 0)) (sym laid)
-        ∙ writes-back n (decode T) sound (getD (T .order) k 0) (omega (arith, form .places k h, held-changes))
+        ap (λ (U : Tables). writesAt U (getD (T .order) k 0)) (sym (facts g .laid))
+        ∙ writes-back n (decode T) (facts g .sound) (getD (T .order) k 0) (omega (arith, facts g .form .places k h, held-changes))
         ∙ ap (λ (c : Change). lists c .writes) by-place
 
   -- ---- the rank of a timestamp, and the change that has it
@@ -125,8 +112,8 @@ module _ (n : ℕ) (T : Tables) (e : lengthsFit n T ≡ true) (q : inForm n T �
     rank-from (suc m) h a =
         let ih = rank-from m (omega arith) in
         by-test (Split t (historyIn T)) (ltb (stampIn T m) t)
-        (λ b. record { below = below-up-to t 0 (historyIn T) m (sound .rising) (omega (arith, history-length)) (omega (arith, stamped m h, ltb-true (stampIn T m) t b)); above = a })
-        (λ b. ih (none-below-from t 0 (historyIn T) m (sound .rising) (omega (arith, history-length)) (omega (arith, stamped m h, ltb-false (stampIn T m) t b))))
+        (λ b. record { below = below-up-to t 0 (historyIn T) m (facts g .sound .rising) (omega (arith, history-length)) (omega (arith, stamped m h, ltb-true (stampIn T m) t b)); above = a })
+        (λ b. ih (none-below-from t 0 (historyIn T) m (facts g .sound .rising) (omega (arith, history-length)) (omega (arith, stamped m h, ltb-false (stampIn T m) t b))))
 
     -- every change below the rank is stamped below the timestamp, no other is
     pub rank-splits : Split t (historyIn T) (rankIn T t)
@@ -146,7 +133,7 @@ module _ (n : ℕ) (T : Tables) (e : lengthsFit n T ≡ true) (q : inForm n T �
         let same = eqb-true _ t (both (ltb k (heldCount T)) b .1) in
         (l, find-here t (historyIn T) k rank-splits (omega (arith, history-length)) (sym (stamped k l) ∙ same) ∙ ap some (change-of k l)))
         (λ b.
-        find-nowhere t (historyIn T) k rank-splits 0 (sound .rising)
+        find-nowhere t (historyIn T) k rank-splits 0 (facts g .sound .rising)
         (λ l same.
         let l' : k < heldCount T = omega (arith, history-length) in
         true-is-not-false (sym (rw (lt-ltb k (heldCount T) l', eq-eqb _ t (stamped k l' ∙ same))) ∙ b)))

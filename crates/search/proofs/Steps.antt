@@ -14,9 +14,10 @@ use lib.Seq.{getD-drop}
 use Rattle.machine.specs.Settings.{_orIf_, entries, lookup}
 use Rattle.machine.proofs.Cases.{by-test}
 use Rattle.model.specs.Form.{timestampOf}
+use Rattle.model.specs.Tables.{listIn}
 use Rattle.search.specs.declared.Written.{Written}
 use Rattle.search.specs.declared.Written.the-variants.{Value, Nothing}
-use Rattle.search.specs.Raw.{rankOf, writtenOf, writesIn, previousWrite}
+use Rattle.search.specs.Searches.{rankOf, writtenOf, previousWrite}
 use Rattle.search.proofs.Answers.{written-value, written-nothing}
 
 -- ---- the rank of a timestamp
@@ -85,7 +86,7 @@ module _ (s start : ℕ) (targets : List ℕ) (written : List ℤ) where
 module _ (order writes targets : List ℕ) (written : List ℤ) (s : ℕ) where
   -- the value that the change below k writes to the setting
   abbrev writeBelow : ℕ → Option ℤ
-  writeBelow k = lookup (writesIn writes targets written (getD order (k - 1) 0)) s
+  writeBelow k = lookup (listIn writes targets written (getD order (k - 1) 0)) s
 
   -- the change below k writes the setting
   pub previous-here : (k : ℕ) {w : Written} {v : ℤ} → 0 < k → w ≡ writtenOf (writeBelow k) → w ≡ Value v → some v ≡ previousWrite order writes targets written s k

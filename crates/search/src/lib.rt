@@ -3,7 +3,7 @@ ghost use mathlib.Core.Path.{_≡_};
 ghost use Prim.Native.Nat.{_+_, _*_, _<_, _≤_};
 ghost use lib.ListN.{length, drop};
 ghost use Rattle.machine.specs.Settings.{lookup, entries};
-ghost use Rattle.search.specs.Raw.{rankOf, positionOf, foundOf, writtenOf, previousWrite, Placed, Listed};
+ghost use Rattle.search.specs.Searches.{rankOf, positionOf, foundOf, writtenOf, previousWrite, PlacesWithin, WriteLists};
 
 // The position in the order list of a timestamp.
 pub enum Found {
@@ -19,7 +19,7 @@ pub enum Written {
 
 // How many of the first count changes of the order list are stamped below t, counted down from the highest.
 pub fn rank(t: u64, count: usize, order: &[u16], timestamps: &[u64]) -> usize
-    requires { ⌜ Placed count (now order) (length (now timestamps)) ⌝ }
+    requires { ⌜ PlacesWithin count (now order) (length (now timestamps)) ⌝ }
     ensures { λ r. ⌜ r ≡ rankOf (now (order .entry)) (now (timestamps .entry)) t count ⌝ }
 {
     let mut k = count;
@@ -35,7 +35,7 @@ pub fn rank(t: u64, count: usize, order: &[u16], timestamps: &[u64]) -> usize
 
 // The position of the change of timestamp t among the first count of the order list.
 pub fn position(t: u64, count: usize, order: &[u16], timestamps: &[u64]) -> Found
-    requires { ⌜ Placed count (now order) (length (now timestamps)) ⌝ }
+    requires { ⌜ PlacesWithin count (now order) (length (now timestamps)) ⌝ }
     ensures { λ r. ⌜ r ≡ foundOf (positionOf (now (order .entry)) (now (timestamps .entry)) t count) ⌝ }
 {
     let k = rank(t, count, order, timestamps);
@@ -74,7 +74,7 @@ pub fn previous_write(
     targets: &[u16],
     written: &[i32],
 ) -> Written
-    requires { ⌜ Placed position (now order) (length (now writes)) × Listed (now writes) (now targets) (now written) ⌝ }
+    requires { ⌜ PlacesWithin position (now order) (length (now writes)) × WriteLists (now writes) (now targets) (now written) ⌝ }
     ensures { λ r. ⌜ r ≡ writtenOf (previousWrite (now (order .entry)) (now (writes .entry)) (now (targets .entry)) (now (written .entry)) s position) ⌝ }
 {
     let mut k = position;

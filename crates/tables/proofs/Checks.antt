@@ -7,7 +7,7 @@ use borrow.Author.Tests.{lt-leb}
 use lib.ListN.{length}
 use Rattle.model.specs.Tables.{Tables, heldCount}
 use Rattle.model.specs.Form.{every, lengthTests, lengthsFit, inForm}
-use Rattle.model.specs.Refusals.{firstOf, wrongLengths, notInForm}
+use Rattle.model.specs.Refusals.{faultOf}
 use Rattle.tables.specs.Lengths.{lengthNumbersFit}
 
 -- ---- several tests
@@ -46,11 +46,11 @@ lengths-numbers n T = join true (lengthTests n T)
 
 -- the refusal, by the two tests
 module _ (n : ℕ) (T : Tables) where
-  pub lengths-wrong : lengthsFit n T ≡ false → 1 ≡ firstOf (wrongLengths n T ∷ notInForm n T ∷ [])
+  pub lengths-wrong : lengthsFit n T ≡ false → 1 ≡ faultOf n T
   lengths-wrong e = rw e
 
-  pub form-wrong : lengthsFit n T ≡ true → inForm n T ≡ false → 2 ≡ firstOf (wrongLengths n T ∷ notInForm n T ∷ [])
+  pub form-wrong : lengthsFit n T ≡ true → inForm n T ≡ false → 2 ≡ faultOf n T
   form-wrong e f = rw (e, f)
 
-  pub none-wrong : lengthsFit n T ≡ true → inForm n T ≡ true → 0 ≡ firstOf (wrongLengths n T ∷ notInForm n T ∷ [])
+  pub none-wrong : lengthsFit n T ≡ true → inForm n T ≡ true → 0 ≡ faultOf n T
   none-wrong e f = rw (e, f)

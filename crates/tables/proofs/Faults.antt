@@ -5,8 +5,8 @@ use mathlib.Core.List.{List, [], _∷_, _++_}
 use Prim.Native.Nat.{ℕ}
 use native.Mathlib.Omega.{arith}
 use Rattle.model.specs.Tables.{Tables}
-use Rattle.model.specs.Form.{lengthsFit, inForm}
-use Rattle.model.specs.Refusals.{Test, firstOf, wrongLengths, notInForm}
+use Rattle.model.specs.Form.{lengthsFit, inForm, Formed}
+use Rattle.model.specs.Refusals.{Test, firstOf, wrongLengths, notInForm, faultOf}
 
 -- a refusal by the first of some tests is that of all of them
 first-refusal : (tests rest : List Test) {r : ℕ} → r ≡ firstOf tests → (r ≡ 0 → ⊥) → r ≡ firstOf (tests ++ rest)
@@ -22,18 +22,11 @@ passed true true e = (refl, refl)
 passed true false e = absurd (omega arith)
 passed false b e = absurd (omega arith)
 
--- the refusal of tables that have a wrong length or are not in form, or 0
-abbrev pub faultOf : ℕ → Tables → ℕ
-faultOf n T = firstOf (wrongLengths n T ∷ notInForm n T ∷ [])
-
--- tables of the right lengths, in form
-abbrev pub Faultless : ℕ → Tables → Type 0
-Faultless n T = (lengthsFit n T ≡ true) × (inForm n T ≡ true)
-
 module _ (n : ℕ) (T : Tables) {r : ℕ} (e : r ≡ faultOf n T) where
   -- tables with a fault are refused for it, whatever is tested after it
   pub faulty : (rest : List Test) → (r ≡ 0 → ⊥) → firstOf (wrongLengths n T ∷ notInForm n T ∷ rest) ≡ r
   faulty rest f = sym (first-refusal (wrongLengths n T ∷ notInForm n T ∷ []) rest e f)
 
-  pub faultless : r ≡ 0 → Faultless n T
-  faultless z = passed (lengthsFit n T) (inForm n T) (sym e ∙ z)
+  -- and without one they are in form
+  pub faultless : r ≡ 0 → Formed n T
+  faultless z = let both = passed (lengthsFit n T) (inForm n T) (sym e ∙ z) in record { lengths = both .0; form = both .1 }

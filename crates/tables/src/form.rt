@@ -1,19 +1,19 @@
 // Lengths and form of the tables: refusals 1 and 2. Tests are joined by `&`, with no branch between them.
-use lists::lists_fit;
-use places::heads_fit;
-use places::order_fits;
-use places::programs_fit;
+use form_lists::lists_fit;
+use form_places::heads_fit;
+use form_places::order_fits;
+use form_places::programs_fit;
 use zeros::rest_zero_i32;
 use zeros::rest_zero_u8;
 use zeros::rest_zero_u16;
 use zeros::rest_zero_u64;
 ghost use mathlib.Core.Path.{_≡_};
-ghost use mathlib.Core.List.{[], _∷_};
+ghost use mathlib.Core.Bool.{true};
+ghost use mathlib.Core.List.{[]};
 ghost use Prim.Native.Nat.{_≤_};
 ghost use Rattle.model.specs.Tables.{tables};
-ghost use Rattle.model.specs.Form.{unusedFits, inForm};
-ghost use Rattle.model.specs.Refusals.{firstOf, wrongLengths, notInForm};
-ghost use Rattle.model.proofs.Tests.{Lengths};
+ghost use Rattle.model.specs.Form.{unusedFits, lengthsFit, inForm};
+ghost use Rattle.model.specs.Refusals.{faultOf};
 ghost use Rattle.tables.specs.Lengths.{lengthNumbersFit};
 
 // Whether the lengths are those of tables of capacity n, from 1 to 4,096.
@@ -109,7 +109,12 @@ pub fn in_form(
     written: &[i32],
     view: &[i32],
 ) -> bool
-    requires { ⌜ Lengths n (tables (now held) (now timestamps) (now order) (now status) (now withdrawn) (now lengths) (now programs) (now reads) (now writes) (now sources) (now seen) (now targets) (now written) (now view)) ⌝ }
+    requires { ⌜
+        lengthsFit n
+        (tables (now held) (now timestamps) (now order) (now status) (now withdrawn) (now lengths) (now programs)
+        (now reads) (now writes) (now sources) (now seen) (now targets) (now written) (now view))
+        ≡ true
+        ⌝ }
     ensures { λ r. ⌜ r ≡ inForm n (tables (now (held .entry)) (now (timestamps .entry)) (now (order .entry)) (now (status .entry)) (now (withdrawn .entry)) (now (lengths .entry)) (now (programs .entry)) (now (reads .entry)) (now (writes .entry)) (now (sources .entry)) (now (seen .entry)) (now (targets .entry)) (now (written .entry)) (now (view .entry))) ⌝ }
 {
     let count = held[0] as usize;
@@ -156,7 +161,7 @@ pub fn fault(
     written: &[i32],
     view: &[i32],
 ) -> u8
-    ensures { λ r. ⌜ (let T = tables (now (held .entry)) (now (timestamps .entry)) (now (order .entry)) (now (status .entry)) (now (withdrawn .entry)) (now (lengths .entry)) (now (programs .entry)) (now (reads .entry)) (now (writes .entry)) (now (sources .entry)) (now (seen .entry)) (now (targets .entry)) (now (written .entry)) (now (view .entry)) in r ≡ firstOf (wrongLengths n T ∷ notInForm n T ∷ [])) ⌝ }
+    ensures { λ r. ⌜ (let T = tables (now (held .entry)) (now (timestamps .entry)) (now (order .entry)) (now (status .entry)) (now (withdrawn .entry)) (now (lengths .entry)) (now (programs .entry)) (now (reads .entry)) (now (writes .entry)) (now (sources .entry)) (now (seen .entry)) (now (targets .entry)) (now (written .entry)) (now (view .entry)) in r ≡ faultOf n T) ⌝ }
 {
     if !lengths_fit(
         n,

@@ -1,45 +1,38 @@
--- What the calls do on any tables in form, reached by calls or not: they leave tables in form, and a drain ends.
-use mathlib.Core.Path.{_≡_, sym, subst}
-use mathlib.Core.Bool.{true}
+-- What the calls do on any tables in form, reached by calls or not: they leave tables in form, a drain ends, and its turns are those of single calls.
+use mathlib.Core.Path.{_≡_, refl, sym, ap, subst, _∙_}
+use mathlib.Core.List.{List}
 use Prim.Native.Nat.{ℕ}
+use native.Mathlib.Omega.{arith}
+use lib.IntN.{ℤ}
+use lib.ListN.{length}
 use Rattle.model.specs.declared.Turned.the-variants.{Idle}
-use Rattle.model.specs.declared.Drained.the-variants.{Counted}
-use Rattle.model.specs.History.{start}
-use Rattle.model.specs.Drain.{totals}
-use Rattle.model.specs.Cabinet.{Cabinet, historyOf}
-use Rattle.model.specs.Tables.{Tables, encode, decode}
-use Rattle.model.specs.Form.{lengthsFit, inForm}
-use Rattle.model.specs.Calls.{turn, drain}
-use Rattle.model.specs.Log.{Call, drainEvents, Ledger, afterCall}
+use Rattle.model.specs.History.{start, History}
+use Rattle.model.specs.Figure.{Event, ran, stood, cleared, Step, idle, turned}
+use Rattle.model.specs.Drain.{drainNone, drainMore, drainHistory}
+use Rattle.model.specs.Cabinet.{Cabinet, historyOf, withHistory}
+use Rattle.model.specs.Tables.{Tables, encode}
+use Rattle.model.specs.Form.{Formed}
+use Rattle.model.specs.Calls.{eventAnswer, roundOf, drainOf}
+use Rattle.model.specs.Log.{Call, Ledger}
 use Rattle.model.specs.Sound.{Sound}
-use Rattle.model.proofs.Keeps.{drain-sound}
-use Rattle.model.proofs.Figure.{RisingEvents, drain-ends}
-use Rattle.model.proofs.Form.{encode-lengths, encode-form, decode-sound, encode-decode}
+use Rattle.model.proofs.Cabinet.{withHistory-history, same-history, history-again}
+use Rattle.model.proofs.Keeps.{StepKeeps, Keeps, keeps-length, round-keeps, drain-keeps, round-sound, drain-sound}
+use Rattle.model.proofs.Figure.{drain-ends, drain-idle, drain-next}
+use Rattle.model.proofs.Form.{encode-formed, facts}
+use Rattle.theory.specs.AnyTables.{KeepsForm, DrainsAny, DrainsByTurns}
 use Rattle.theory.proofs.Calls.{turn-call, drain-call, drain-events, drained-history, call-tables, call-sound}
 
--- right lengths, and in form
-pub record InForm (n : ℕ) (T : Tables) : Type 0 where
-  pub lengths : lengthsFit n T ≡ true
-  pub form : inForm n T ≡ true
+-- ---- form
 
--- the tables of a sound cabinet are in form
-laid-out : {n : ℕ} {c : Cabinet} {T : Tables} → T ≡ encode n c → Sound n c → InForm n T
-laid-out {n} {c} e s = rw e (record { lengths = encode-lengths n c s; form = encode-form n c s })
-
--- every call on tables in form, answered or refused, leaves tables in form
-pub calls-keep-form : (n : ℕ) (call : Call) (k : Ledger) → InForm n (k .tables) → InForm n (afterCall n call k .tables)
+pub calls-keep-form : (n : ℕ) (call : Call) (k : Ledger) → KeepsForm n call k
 calls-keep-form n call k f =
-    let s = decode-sound n (k .tables) (f .lengths) (f .form) in
-    laid-out (call-tables s call k (sym (encode-decode n (k .tables) (f .lengths) (f .form)))) (call-sound s call)
+    let s = facts f .sound in
+    rw (call-tables s call k (sym (facts f .laid))) (encode-formed (call-sound s call))
 
--- a drain on any tables in form is answered with the counts of its turns, which go by rising timestamp, so that no change has two; after it a turn is idle
-pub record DrainsAny (n : ℕ) (T : Tables) : Type 0 where
-  pub answered : drain n T .answer ≡ Counted (totals (drainEvents n T))
-  pub rising-turns : RisingEvents 0 (drainEvents n T)
-  pub idle-next : turn n (drain n T .tables) .answer ≡ Idle
+-- ---- a drain ends
 
-drain-any : (n : ℕ) (c : Cabinet) → Sound n c → DrainsAny n (encode n c)
-drain-any n c s =
+drain-any : {n : ℕ} {c : Cabinet} → Sound n c → DrainsAny n (encode n c)
+drain-any {n} {c} s =
     let d = drain-ends start (historyOf c) (c .view) (s .rising) in
     record {
       answered = rw (drain-call s, drain-events s);
@@ -47,6 +40,65 @@ drain-any n c s =
       idle-next = rw (drain-call s, turn-call (drain-sound s), drained-history s, d .idle-next);
     }
 
-pub drains-any : (n : ℕ) (T : Tables) → InForm n T → DrainsAny n T
-drains-any n T f =
-    subst (DrainsAny n) (encode-decode n T (f .lengths) (f .form)) (drain-any n (decode T) (decode-sound n T (f .lengths) (f .form)))
+pub drains-any : (n : ℕ) (T : Tables) → Formed n T → DrainsAny n T
+drains-any n T f = subst (DrainsAny n) (facts f .laid) (drain-any (facts f .sound))
+
+-- ---- its turns
+
+event-not-idle : (e : Event) → ¬ (eventAnswer e ≡ Idle)
+event-not-idle (ran t l) q = let z : _≡_ {A = ℕ} 0 1 = cc in omega arith
+event-not-idle (stood t) q = let z : _≡_ {A = ℕ} 0 1 = cc in omega arith
+event-not-idle (cleared t) q = let z : _≡_ {A = ℕ} 0 1 = cc in omega arith
+
+module _ {n : ℕ} {c : Cabinet} (s : Sound n c) where
+  -- where a turn is idle
+  idle-drain : roundOf c ≡ idle → DrainsByTurns n (encode n c)
+  idle-drain q =
+      let none : drainOf c ≡ drainNone (historyOf c) (c .view) = drain-idle start (historyOf c) (c .view) q in
+      record {
+        none-left = λ i. (rw (drain-events s, none), rw (drain-call s, none) (ap (encode n) (same-history c)));
+        one-more = λ f. absurd (f (rw (turn-call s, q)));
+      }
+
+  -- after a turn
+  module _ {h : History} {view : List ℤ} {e : Event} (q : roundOf c ≡ turned h view e) where
+    abbrev next : Cabinet
+    next = withHistory c h view
+
+    next-sound : Sound n next
+    next-sound = round-sound s q
+
+    kept : Keeps (historyOf c) (c .view) h view
+    kept = subst (StepKeeps (historyOf c) (c .view)) q (round-keeps start (historyOf c) (c .view))
+
+    next-history : historyOf next ≡ h
+    next-history = withHistory-history c h view (s .placed) (keeps-length kept)
+
+    first-turn : drainOf c ≡ drainMore e (drainOf next)
+    first-turn =
+        drain-next start (historyOf c) (c .view) (s .rising) q
+        ∙ ap (λ (g : History). drainMore e (drainHistory start g view)) (sym next-history)
+
+    same-length : length (drainOf next .history) ≡ length (historyOf c)
+    same-length = keeps-length (drain-keeps start (historyOf next) view) ∙ ap length next-history ∙ keeps-length kept
+
+    turn-drain : DrainsByTurns n (encode n c)
+    turn-drain =
+        record {
+          none-left = λ i. absurd (event-not-idle e (rw (turn-call s, q) at i));
+          one-more = λ f. (
+            rw (turn-call s, q, drain-events s, drain-events next-sound, first-turn),
+            rw (turn-call s, q, drain-call s, drain-call next-sound, first-turn)
+                (ap (encode n) (sym (history-again c h (drainOf next .history) view (drainOf next .view) (s .placed) same-length))),
+          );
+        }
+
+  by-turns : DrainsByTurns n (encode n c)
+  by-turns = go (roundOf c) refl
+    where
+      go : (x : Step) → roundOf c ≡ x → DrainsByTurns n (encode n c)
+      go idle q = idle-drain q
+      go (turned h view e) q = turn-drain q
+
+pub drains-by-turns : (n : ℕ) (T : Tables) → Formed n T → DrainsByTurns n T
+drains-by-turns n T f = subst (DrainsByTurns n) (facts f .laid) (by-turns (facts f .sound))

@@ -1,5 +1,5 @@
 -- Demand 3, proved: a theorem about every list of calls on freshly set-up tables.
-use mathlib.Core.Path.{_≡_, refl}
+use mathlib.Core.Path.{_≡_, refl, _∙_}
 use mathlib.Core.Bool.{true}
 use mathlib.Core.List.{List}
 use Prim.Native.Nat.{ℕ}
@@ -14,7 +14,7 @@ use Rattle.model.proofs.Keeps.{drain-sound}
 use Rattle.model.proofs.Order.{placed-of}
 use Rattle.model.proofs.Tests.{Lengths, lengths-of}
 use Rattle.model.proofs.Tables.{held-count, decode-encode}
-use Rattle.model.proofs.Form.{encode-form}
+use Rattle.model.proofs.Form.{encode-formed}
 use Rattle.theory.specs.Demand.{Drains, Demand3}
 use Rattle.theory.proofs.Invariant.{empty-invariant}
 use Rattle.theory.proofs.Calls.{drained, drain-call, drain-events, drained-history}
@@ -55,13 +55,14 @@ drains n c k h =
     rw (h .tables)
     (record {
       answered = rw (drain-call s, drain-events s);
+      booked = rw (drain-call s, back, drained-history s) (claim .same-book ∙ h .booked);
       fresh-lists = rw (drain-call s, back, drained-history s) (rw (h .booked) at (claim .fresh-lists));
       no-others = rw (drain-call s, back, held-count n (drained c)) (drain-sound s .placed .covers);
       fresh-view = rw (drain-call s, view-of n (drained c)) (rw (h .booked) at (claim .fresh-view));
       one-turn-each = rw (drain-events s) (claim .one-turn-each);
       none-in-vain = rw (drain-events s) (rw (h .booked) at (claim .none-in-vain));
-      form-before = encode-form n c s;
-      form-after = rw (drain-call s) (encode-form n (drained c) (drain-sound s));
+      form-before = encode-formed s .form;
+      form-after = rw (drain-call s) (encode-formed (drain-sound s) .form);
     })
 
 -- demand 3

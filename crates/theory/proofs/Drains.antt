@@ -8,11 +8,11 @@ use lib.ListN.{length}
 use Rattle.machine.specs.Settings.{Environment, after}
 use Rattle.model.specs.History.{start, New, Valid, Invalid, Lists, change, History, afterAll, allSettings}
 use Rattle.model.specs.Figure.{Event, Step, idle, turned, eventTimestamp, round}
-use Rattle.model.specs.Drain.{Drain, drainNone, drainStep, drainFor, drainHistory}
+use Rattle.model.specs.Drain.{Drain, drainNone, drainStep, drainFor, drainHistory, RisingEvents}
 use Rattle.model.specs.Book.{bookOf, freshRun, freshEnd}
 use Rattle.model.specs.Sound.{Rising}
 use Rattle.model.proofs.Keeps.{StepKeeps, keeps-rising, round-keeps}
-use Rattle.model.proofs.Figure.{AllValid, RisingEvents, drain-ends}
+use Rattle.model.proofs.Figure.{AllValid, drain-ends}
 use Rattle.theory.specs.Demand.{NoTurn, OneTurnEach, NoneInVain, listed}
 use Rattle.theory.proofs.Invariant.{AllConsistent, Invariant}
 use Rattle.theory.proofs.Turns.{valid-fresh, StepClaim, turn-claim}

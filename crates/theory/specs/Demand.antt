@@ -10,13 +10,12 @@ use Rattle.model.specs.declared.Drained.the-variants.{Counted}
 use Rattle.model.specs.History.{start, Lists, Change, timestamp, lists, allSettings}
 use Rattle.model.specs.Figure.{Event, ran, stood, cleared, eventTimestamp}
 use Rattle.model.specs.Drain.{totals}
-use Rattle.model.specs.Cabinet.{historyOf}
+use Rattle.model.specs.Cabinet.{In, historyOf}
 use Rattle.model.specs.Tables.{Tables, heldCount, decode}
 use Rattle.model.specs.Form.{inForm}
-use Rattle.model.specs.Book.{Book, freshRun, freshEnd, freshBefore}
+use Rattle.model.specs.Book.{Book, bookOf, freshRun, freshEnd, freshBefore}
 use Rattle.model.specs.Calls.{setUp, drain}
 use Rattle.model.specs.Log.{Call, Ledger, begun, afterCalls, drainEvents}
-use Rattle.model.specs.Sound.{In}
 
 -- no turn of a list is for this change
 abbrev pub NoTurn : ℕ → List Event → Type 0
@@ -60,6 +59,8 @@ listed c = (timestamp c, lists c)
 pub record Drains (n : ℕ) (k : Ledger) : Type 0 where
   -- "The last call is a drain that is answered"
   pub answered : drain n (k .tables) .answer ≡ Counted (totals (drainEvents n (k .tables)))
+  -- "Held changes are those in the book": timestamp, program, withdrawn or not
+  pub booked : bookOf (historyOf (decode (drain n (k .tables) .tables))) ≡ k .book
   -- "After the last drain the tables hold the book's timestamps and no others, each with the fresh run's lists, entry for entry in order"
   pub fresh-lists : map listed (historyOf (decode (drain n (k .tables) .tables))) ≡ freshRun (k .book) start
   pub no-others : (i : ℕ) → i < heldCount (drain n (k .tables) .tables) → In i (decode (drain n (k .tables) .tables) .order)

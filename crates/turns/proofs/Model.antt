@@ -20,18 +20,17 @@ use Rattle.model.specs.History.{start, Valid, Lists, empty, runLists, Change, c
 use Rattle.model.specs.Figure.{Event, Step, turned}
 use Rattle.model.specs.Walk.{differs, liveAtEnd}
 use Rattle.model.specs.Cabinet.{blank, withHistory}
-use Rattle.model.specs.Tables.{Tables, tables, flagNumber, settingsOf, valuesOf, heldCount, decode, encode}
+use Rattle.model.specs.Tables.{Tables, tables, flagNumber, settingsOf, valuesOf, heldCount, decode, encode, programIn}
 use Rattle.model.specs.Calls.{reply, eventAnswer, stepReply, roundOf}
-use Rattle.model.specs.Sound.{Sound}
 use Rattle.model.proofs.Entries.{settings-entries, values-entries, length-entries}
 use Rattle.model.proofs.Figure.{round-walk}
-use Rattle.model.proofs.Form.{decode-sound, encode-decode}
 use Rattle.model.proofs.Tables.{timestamp-at, withdrawn-at}
-use Rattle.model.proofs.Tests.{Lengths, FormTests, lengths-of, form-of}
+use Rattle.model.specs.Form.{Formed}
+use Rattle.model.proofs.Form.{facts}
 use Rattle.search.proofs.Model.{historyIn, placed-writes, listed, by-place}
-use Rattle.execution.specs.Raw.{valuesBelow}
+use Rattle.execution.specs.Raw.{valuesBelow, waitingIn}
 use Rattle.execution.proofs.Passes.{passes, passes-turned}
-use Rattle.execution.proofs.Model.{waitingIn, uptoIn, status-of, walk-none, waiting-held, waiting-some, walk-some, values-below, new-below, program-here, program-size, program-formed, reads-here, targets-below, live-differs, values-new}
+use Rattle.execution.proofs.Model.{uptoIn, status-of, walk-none, waiting-held, waiting-some, walk-some, values-below, new-below, program-here, program-size, program-formed, reads-here, targets-below, live-differs, values-new}
 use Rattle.marking.specs.Raw.{isLive, followed, replaced, replacedZ}
 use Rattle.marking.proofs.Live.{Agree}
 use Rattle.marking.proofs.Cabinet.{liveIn}
@@ -97,23 +96,14 @@ made-sized {a} {r} {l} env p moves m h = go a refl
     go act.Stand e = absurd (moves e)
     go act.Run e = columns-sized env p (m .ran e) h
 
-module _ (T : Tables) (g : turn.Formed T) where
+module _ (T : Tables) (g : Formed (length (T .order)) T) where
   abbrev n : ℕ
   n = length (T .order)
-
-  lengths : Lengths n T
-  lengths = lengths-of n T (g .0)
-
-  form : FormTests n T
-  form = form-of n T (g .1)
-
-  sound : Sound n (decode T)
-  sound = decode-sound n T (g .0) (g .1)
 
   -- none waits
   pub turn-idle : waitingIn T ≡ none → reply turn-answer.Idle T ≡ turn.turned T
   unfolding turn.turned
-  turn-idle w = sym (ap (stepReply n T (decode T)) (round-walk start (historyIn T) (decode T .view) 0 (sound .rising) ∙ walk-none n T (g .0) (g .1) w start (decode T .view)))
+  turn-idle w = sym (ap (stepReply n T (decode T)) (round-walk start (historyIn T) (decode T .view) 0 (facts g .sound .rising) ∙ walk-none g w start (decode T .view)))
 
   module _ (k : ℕ) (w : waitingIn T ≡ some k) where
     abbrev place : ℕ
@@ -126,10 +116,10 @@ module _ (T : Tables) (g : turn.Formed T) where
     later = drop (suc k) (historyIn T)
 
     held : k < heldCount T
-    held = waiting-held n T (g .0) (g .1) k w
+    held = waiting-held g k w
 
     place-held : place < heldCount T
-    place-held = form .places k held
+    place-held = facts g .form .places k held
 
     -- ---- what the code relies on
 
@@ -137,54 +127,54 @@ module _ (T : Tables) (g : turn.Formed T) where
     positioned =
         record {
           held = held;
-          ordered = omega (arith, form .small, lengths .order);
-          few = omega (arith, form .small, lengths .capacity);
-          small = omega (arith, lengths .capacity, lengths .writes);
-          place = omega (arith, place-held, form .small, lengths .writes);
+          ordered = omega (arith, facts g .form .small, facts g .lengths .order);
+          few = omega (arith, facts g .form .small, facts g .lengths .capacity);
+          small = omega (arith, facts g .lengths .capacity, facts g .lengths .writes);
+          place = omega (arith, place-held, facts g .form .small, facts g .lengths .writes);
         }
 
     pub decidable : acts.Decidable k (heldCount T) (T .order) (T .status) (T .withdrawn) (T .reads) (T .sources) (T .seen) (T .writes) (T .targets) (T .written)
     decidable =
         record {
           at = positioned;
-          status-slots = lengths .status ∙ sym (lengths .writes);
-          flag-slots = lengths .withdrawn ∙ sym (lengths .writes);
-          read-counts = lengths .reads ∙ sym (lengths .writes);
-          source-slots = omega (arith, lengths .sources, lengths .writes);
-          seen-slots = omega (arith, lengths .seen, lengths .writes);
-          short = form .reads place place-held .short;
-          placed = placed-writes n T (g .0) (g .1) k (omega (arith, held));
-          listed = listed n T (g .0) (g .1);
+          status-slots = facts g .lengths .status ∙ sym (facts g .lengths .writes);
+          flag-slots = facts g .lengths .withdrawn ∙ sym (facts g .lengths .writes);
+          read-counts = facts g .lengths .reads ∙ sym (facts g .lengths .writes);
+          source-slots = omega (arith, facts g .lengths .sources, facts g .lengths .writes);
+          seen-slots = omega (arith, facts g .lengths .seen, facts g .lengths .writes);
+          short = facts g .form .reads place place-held .short;
+          placed = placed-writes g k (omega (arith, held));
+          listed = listed g;
         }
 
     pub runnable : acts.Runnable k (T .order) (T .lengths) (T .programs) (T .writes) (T .targets) (T .written)
     runnable =
         record {
-          ordered = omega (arith, held, form .small, lengths .order);
-          place = omega (arith, place-held, form .small, lengths .lengths);
-          small = omega (arith, lengths .capacity, lengths .lengths);
-          blocks = omega (arith, lengths .programs, lengths .lengths);
-          short = form .programs place place-held .short;
-          formed = program-formed n T (g .0) (g .1) k held;
-          placed = placed-writes n T (g .0) (g .1) k (omega (arith, held));
-          listed = listed n T (g .0) (g .1);
+          ordered = omega (arith, held, facts g .form .small, facts g .lengths .order);
+          place = omega (arith, place-held, facts g .form .small, facts g .lengths .lengths);
+          small = omega (arith, facts g .lengths .capacity, facts g .lengths .lengths);
+          blocks = omega (arith, facts g .lengths .programs, facts g .lengths .lengths);
+          short = facts g .form .programs place place-held .short;
+          formed = program-formed g k held;
+          placed = placed-writes g k (omega (arith, held));
+          listed = listed g;
         }
 
-    pub short : length (acts.programIn (T .lengths) (T .programs) place) ≤ 256
-    short = rw (program-here n T (g .0) (g .1) k held) (program-size n T (g .0) (g .1) k held)
+    pub short : length (programIn (T .lengths) (T .programs) place) ≤ 256
+    short = rw (program-here g k held) (program-size g k held)
 
     pub propagable : raw.Propagable k (heldCount T) (T .order) (T .status) (T .reads) (T .sources) (T .writes) (T .targets) (T .written)
     propagable =
         record {
           at = positioned;
-          status-slots = lengths .status ∙ sym (lengths .writes);
-          read-counts = lengths .reads ∙ sym (lengths .writes);
-          source-slots = omega (arith, lengths .sources, lengths .writes);
-          short = form .writes place place-held .short;
-          settings = targets-below n T (g .0) (g .1) k held;
-          walkable = walkable-form n T (g .0) (g .1);
-          placed = placed-writes n T (g .0) (g .1) k (omega (arith, held));
-          listed = listed n T (g .0) (g .1);
+          status-slots = facts g .lengths .status ∙ sym (facts g .lengths .writes);
+          read-counts = facts g .lengths .reads ∙ sym (facts g .lengths .writes);
+          source-slots = omega (arith, facts g .lengths .sources, facts g .lengths .writes);
+          short = facts g .form .writes place place-held .short;
+          settings = targets-below g k held;
+          walkable = walkable-form g;
+          placed = placed-writes g k (omega (arith, held));
+          listed = listed g;
         }
 
     -- ---- indices
@@ -192,12 +182,12 @@ module _ (T : Tables) (g : turn.Formed T) where
     pub slots : Slots T k
     slots =
         record {
-          counted = omega (arith, lengths .held);
-          position = omega (arith, held, form .small, lengths .capacity);
-          order = omega (arith, held, form .small, lengths .order);
-          place = omega (arith, place-held, form .small, lengths .capacity);
-          timestamps = omega (arith, place-held, form .small, lengths .timestamps);
-          status = omega (arith, place-held, form .small, lengths .status);
+          counted = omega (arith, facts g .lengths .held);
+          position = omega (arith, held, facts g .form .small, facts g .lengths .capacity);
+          order = omega (arith, held, facts g .form .small, facts g .lengths .order);
+          place = omega (arith, place-held, facts g .form .small, facts g .lengths .capacity);
+          timestamps = omega (arith, place-held, facts g .form .small, facts g .lengths .timestamps);
+          status = omega (arith, place-held, facts g .form .small, facts g .lengths .status);
         }
 
     -- ---- the turn, by what is done
@@ -208,30 +198,30 @@ module _ (T : Tables) (g : turn.Formed T) where
 
     flag-here : getD (T .withdrawn) place 0 ≡ flagNumber (withdrawn here)
     flag-here =
-        ap (λ (U : Tables). getD (U .withdrawn) place 0) (sym (encode-decode n T (g .0) (g .1)))
+        ap (λ (U : Tables). getD (U .withdrawn) place 0) (sym (facts g .laid))
         ∙ withdrawn-at n (decode T) place
-        ∙ ap (λ (c : Change). flagNumber (withdrawn c)) (by-place n T (g .0) (g .1) k held)
+        ∙ ap (λ (c : Change). flagNumber (withdrawn c)) (by-place g k held)
 
     timestamp-here : getD (T .timestamps) place 0 ≡ timestamp here
     timestamp-here =
-        ap (λ (U : Tables). getD (U .timestamps) place 0) (sym (encode-decode n T (g .0) (g .1)))
+        ap (λ (U : Tables). getD (U .timestamps) place 0) (sym (facts g .laid))
         ∙ timestamp-at n (decode T) place
-        ∙ ap timestamp (by-place n T (g .0) (g .1) k held)
+        ∙ ap timestamp (by-place g k held)
 
     act-is : actIn ≡ actBy (uptoIn T k) here
     act-is =
         let flags = flag-here in
-        let statuses = status-of n T (g .0) (g .1) k held in
-        let reads = reads-here n T (g .0) (g .1) k held in
-        let upto = values-below n T (g .0) (g .1) k (omega (arith, held)) in
+        let statuses = status-of g k held in
+        let reads = reads-here g k held in
+        let upto = values-below g k (omega (arith, held)) in
         λ j. acts.actOf (flags j) (statuses j) (allHold (reads j) (upto j))
 
     round-by : {a : Act} → a ≡ actIn → roundOf (decode T) ≡ passes (take k (historyIn T)) (stepBy a (uptoIn T k) (decode T .view) here later)
     round-by e =
-        round-walk start (historyIn T) (decode T .view) 0 (sound .rising)
-        ∙ walk-some n T (g .0) (g .1) k w start (decode T .view)
+        round-walk start (historyIn T) (decode T .view) 0 (facts g .sound .rising)
+        ∙ walk-some g k w start (decode T .view)
         ∙ ap (passes (take k (historyIn T)))
-        (walk-acts (uptoIn T k) (decode T .view) here later (waiting-some n T (g .0) (g .1) k w .here)
+        (walk-acts (uptoIn T k) (decode T .view) here later (waiting-some g k w .here)
         ∙ ap (λ (a : Act). stepBy a (uptoIn T k) (decode T .view) here later) (sym (e ∙ act-is)))
 
     -- the tables after a turn
@@ -247,7 +237,7 @@ module _ (T : Tables) (g : turn.Formed T) where
         let new = change (timestamp here) (program here) Valid (withdrawn here) (lists here) in
         ap (λ (t : ℕ). reply (turn-answer.Stood t) (withStatus T status')) (s ∙ timestamp-here)
         ∙ turn-leaves (round-by d) (ap (λ (a : Act). stepBy a (uptoIn T k) (decode T .view) here later) e)
-        (ap (withStatus T) u ∙ restated-tables n T (g .0) (g .1) k held new (record { stamped = refl; programmed = refl; flagged = refl; listed = refl }))
+        (ap (withStatus T) u ∙ restated-tables g k held new (record { stamped = refl; programmed = refl; flagged = refl; listed = refl }))
 
     -- ---- new lists, in their columns
 
@@ -280,10 +270,10 @@ module _ (T : Tables) (g : turn.Formed T) where
       changes = differs (lists here) new (uptoIn T k)
 
       agree : Agree (isLive live) changes
-      agree x h = live-differs n T (g .0) (g .1) k held (l .writes) (l .targets) (l .written) (omega (arith, z .wrote .short, z .wrote .value-slots)) new wrote x h
+      agree x h = live-differs g k held (l .writes) (l .targets) (l .written) (omega (arith, z .wrote .short, z .wrote .value-slots)) new wrote x h
 
       live-end : Agree (isLive (liveIn T (k + 1) live)) (liveAtEnd changes later)
-      live-end = subst (λ (m : ℕ). Agree (isLive (liveIn T (k + 1) live)) (liveAtEnd changes (drop m (historyIn T)))) (add-one k) (live-at-end n T (g .0) (g .1) live changes agree (k + 1))
+      live-end = subst (λ (m : ℕ). Agree (isLive (liveIn T (k + 1) live)) (liveAtEnd changes (drop m (historyIn T)))) (add-one k) (live-at-end g live changes agree (k + 1))
 
       abbrev viewOf : List ℤ
       viewOf = allSettings (λ x. cond (liveAtEnd changes later x) (after (new .writes) (uptoIn T k) x) (valueIn (T .view) x))
@@ -291,7 +281,7 @@ module _ (T : Tables) (g : turn.Formed T) where
       view-is : followed (liveIn T (k + 1) live) values (T .view) ≡ viewOf
       view-is =
           view-follows (liveIn T (k + 1) live) values (T .view) (liveAtEnd changes later) (after (new .writes) (uptoIn T k)) live-end
-          (λ x h t. values-new n T (g .0) (g .1) k held (l .writes) (l .targets) (l .written) (omega (arith, z .wrote .short, z .wrote .value-slots)) new wrote x h (replicate settingCount (pos 0)) (length-replicate settingCount (pos 0)) (still-live changes later x t))
+          (λ x h t. values-new g k held (l .writes) (l .targets) (l .written) (omega (arith, z .wrote .short, z .wrote .value-slots)) new wrote x h (replicate settingCount (pos 0)) (length-replicate settingCount (pos 0)) (still-live changes later x t))
 
       abbrev changed : Change
       changed = change (timestamp here) (program here) Valid (withdrawn here) new
@@ -316,13 +306,13 @@ module _ (T : Tables) (g : turn.Formed T) where
 
         pub turn-installed : {a : Act} {e : Event} → a ≡ actIn → stepBy a (uptoIn T k) (decode T .view) here later ≡ settleChange (uptoIn T k) (decode T .view) here new later e → reply (eventAnswer e) tables' ≡ turn.turned T
         unfolding decode
-        turn-installed d q = turn-leaves (round-by d) q (tables-settled ∙ settled-tables n T (g .0) (g .1) live changes agree k held changed (record { stamped = refl; programmed = refl; flagged = refl; reads-short = omega (arith, reads-count, z .short); writes-short = omega (arith, writes-count, z .wrote .short) }) viewOf)
+        turn-installed d q = turn-leaves (round-by d) q (tables-settled ∙ settled-tables g live changes agree k held changed (record { stamped = refl; programmed = refl; flagged = refl; reads-short = omega (arith, reads-count, z .short); writes-short = omega (arith, writes-count, z .wrote .short) }) viewOf)
 
     -- ---- the two outcomes with new lists
 
     -- what `install` relies on
     pub installable : (l : raw.NewLists) → raw.Sized l → raw.Propagable k (heldCount T) (T .order) (T .status) (T .reads) (T .sources) (T .writes) (T .targets) (T .written) × raw.Sized l × (length (T .seen) ≡ 32 * length (T .writes)) × (length (T .view) ≡ settingCount)
-    installable l z = (propagable, z, decidable .seen-slots, lengths .view)
+    installable l z = (propagable, z, decidable .seen-slots, facts g .lengths .view)
 
     -- what `install` leaves
     abbrev pub Installed : raw.NewLists → List ℕ → List ℕ → List ℕ → List ℕ → List ℤ → List ℕ → List ℤ → List ℤ → Type 0
@@ -340,16 +330,16 @@ module _ (T : Tables) (g : turn.Formed T) where
           (i .0) (i .1) (i .2) d (ap (λ (a : Act). stepBy a (uptoIn T k) (decode T .view) here later) e)
 
       -- it ran
-      turn-ran : {r : Run} {l : record-of.Lists} → record-of.Ran r l (run (valuesBelow (T .order) (T .writes) (T .targets) (T .written) k) (acts.programIn (T .lengths) (T .programs) place)) → a ≡ act.Run → Installed (columnsOf r l) status' reads' writes' sources' seen' targets' written' view' → reply (turn-answer.Ran t) (tables (T .held) (T .timestamps) (T .order) status' (T .withdrawn) (T .lengths) (T .programs) reads' writes' sources' seen' targets' written' view') ≡ turn.turned T
+      turn-ran : {r : Run} {l : record-of.Lists} → record-of.Ran r l (run (valuesBelow (T .order) (T .writes) (T .targets) (T .written) k) (programIn (T .lengths) (T .programs) place)) → a ≡ act.Run → Installed (columnsOf r l) status' reads' writes' sources' seen' targets' written' view' → reply (turn-answer.Ran t) (tables (T .held) (T .timestamps) (T .order) status' (T .withdrawn) (T .lengths) (T .programs) reads' writes' sources' seen' targets' written' view') ≡ turn.turned T
       unfolding runLists
       turn-ran {r} {l} o e i =
-          let same : run (valuesBelow (T .order) (T .writes) (T .targets) (T .written) k) (acts.programIn (T .lengths) (T .programs) place) ≡ run (uptoIn T k) (program here) = ap₂ run (values-below n T (g .0) (g .1) k (omega (arith, held))) (program-here n T (g .0) (g .1) k held) in
+          let same : run (valuesBelow (T .order) (T .writes) (T .targets) (T .written) k) (programIn (T .lengths) (T .programs) place) ≡ run (uptoIn T k) (program here) = ap₂ run (values-below g k (omega (arith, held))) (program-here g k held) in
           ap (λ (t : ℕ). reply (turn-answer.Ran t) (tables (T .held) (T .timestamps) (T .order) status' (T .withdrawn) (T .lengths) (T .programs) reads' writes' sources' seen' targets' written' view')) (s ∙ timestamp-here)
           ∙ turn-installed (columnsOf r l) (columns-sized _ _ o short) (runLists (uptoIn T k) (program here)) (ap (λ (x : Outcome). x .reads) (o .outcome ∙ same)) (ap (λ (x : Outcome). x .writes) (o .outcome ∙ same))
           (i .0) (i .1) (i .2) d (ap (λ (a : Act). stepBy a (uptoIn T k) (decode T .view) here later) e)
 
       -- it was cleared or ran
-      pub turn-replaced : {r : Run} {l : record-of.Lists} → (a ≡ act.Stand → ⊥) → acts.Made a r l (run (valuesBelow (T .order) (T .writes) (T .targets) (T .written) k) (acts.programIn (T .lengths) (T .programs) place)) → Installed (columnsOf r l) status' reads' writes' sources' seen' targets' written' view' → {answer : Turned} → answer ≡ turn.answerBy a t → reply answer (tables (T .held) (T .timestamps) (T .order) status' (T .withdrawn) (T .lengths) (T .programs) reads' writes' sources' seen' targets' written' view') ≡ turn.turned T
+      pub turn-replaced : {r : Run} {l : record-of.Lists} → (a ≡ act.Stand → ⊥) → acts.Made a r l (run (valuesBelow (T .order) (T .writes) (T .targets) (T .written) k) (programIn (T .lengths) (T .programs) place)) → Installed (columnsOf r l) status' reads' writes' sources' seen' targets' written' view' → {answer : Turned} → answer ≡ turn.answerBy a t → reply answer (tables (T .held) (T .timestamps) (T .order) status' (T .withdrawn) (T .lengths) (T .programs) reads' writes' sources' seen' targets' written' view') ≡ turn.turned T
       turn-replaced {r} {l} moves m i q =
           ap (λ (answer : Turned). reply answer (tables (T .held) (T .timestamps) (T .order) status' (T .withdrawn) (T .lengths) (T .programs) reads' writes' sources' seen' targets' written' view')) q ∙ go a refl
         where

@@ -1,21 +1,15 @@
 -- One turn on the lent tables.
-use mathlib.Core.Path.{_≡_}
 use mathlib.Core.Bool.{Bool, true, false}
 use Prim.Native.Nat.{ℕ}
 use lib.ListN.{length}
 use Rattle.model.specs.declared.Turned.{Turned}
 use Rattle.model.specs.declared.Turned.the-variants as turn-answer
 use Rattle.model.specs.Tables.{Tables, decode}
-use Rattle.model.specs.Form.{lengthsFit, inForm}
 use Rattle.model.specs.Calls.{Reply, stepReply, roundOf}
 use Rattle.acts.specs.declared.Act.{Act}
 use Rattle.acts.specs.declared.Act.the-variants as act
 
--- tables in form; their capacity is the length of the order list
-abbrev pub Formed : Tables → Type 0
-Formed T = (lengthsFit (length (T .order)) T ≡ true) × (inForm (length (T .order)) T ≡ true)
-
--- the answer and the tables after one turn (Figure 1)
+-- the answer and the tables after one turn (Figure 1); the capacity is the length of the order list
 unfoldable pub turned : Tables → Reply Turned
 turned T = stepReply (length (T .order)) T (decode T) (roundOf (decode T))
 

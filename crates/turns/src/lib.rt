@@ -8,10 +8,12 @@ use replacement::install;
 use search::Found;
 ghost use mathlib.Core.Path.{_≡_};
 ghost use mathlib.Core.Option.{some};
+ghost use lib.ListN.{length};
 ghost use Rattle.model.specs.Tables.{tables};
 ghost use Rattle.model.specs.Calls.{reply};
-ghost use Rattle.execution.proofs.Model.{waitingIn};
-ghost use Rattle.turns.specs.Raw.{Formed, turned, isStand, answerBy};
+ghost use Rattle.model.specs.Form.{Formed};
+ghost use Rattle.execution.specs.Raw.{waitingIn};
+ghost use Rattle.turns.specs.Raw.{turned, isStand, answerBy};
 
 // Whether a change stands.
 fn stands(act: Act) -> bool
@@ -53,7 +55,7 @@ fn turn_at(
     written: &mut [i32],
     view: &mut [i32],
 ) -> Turned
-    requires { ⌜ (let T = tables (now held) (now timestamps) (now order) (now status) (now withdrawn) (now lengths) (now programs) (now reads) (now writes) (now sources) (now seen) (now targets) (now written) (now view) in Formed T × (waitingIn T ≡ some k)) ⌝ }
+    requires { ⌜ (let T = tables (now held) (now timestamps) (now order) (now status) (now withdrawn) (now lengths) (now programs) (now reads) (now writes) (now sources) (now seen) (now targets) (now written) (now view) in Formed (length (T .order)) T × (waitingIn T ≡ some k)) ⌝ }
     ensures { λ r. ⌜ reply r (tables (now (held .entry)) (now (timestamps .entry)) (now (order .entry)) (now (status .exit)) (now (withdrawn .entry)) (now (lengths .entry)) (now (programs .entry)) (now (reads .exit)) (now (writes .exit)) (now (sources .exit)) (now (seen .exit)) (now (targets .exit)) (now (written .exit)) (now (view .exit))) ≡ turned (tables (now (held .entry)) (now (timestamps .entry)) (now (order .entry)) (now (status .entry)) (now (withdrawn .entry)) (now (lengths .entry)) (now (programs .entry)) (now (reads .entry)) (now (writes .entry)) (now (sources .entry)) (now (seen .entry)) (now (targets .entry)) (now (written .entry)) (now (view .entry))) ⌝ }
 {
     let count = held[0] as usize;
@@ -133,7 +135,7 @@ pub fn turn_once(
     written: &mut [i32],
     view: &mut [i32],
 ) -> Turned
-    requires { ⌜ Formed (tables (now held) (now timestamps) (now order) (now status) (now withdrawn) (now lengths) (now programs) (now reads) (now writes) (now sources) (now seen) (now targets) (now written) (now view)) ⌝ }
+    requires { ⌜ Formed (length (now order)) (tables (now held) (now timestamps) (now order) (now status) (now withdrawn) (now lengths) (now programs) (now reads) (now writes) (now sources) (now seen) (now targets) (now written) (now view)) ⌝ }
     ensures { λ r. ⌜ reply r (tables (now (held .entry)) (now (timestamps .entry)) (now (order .entry)) (now (status .exit)) (now (withdrawn .entry)) (now (lengths .entry)) (now (programs .entry)) (now (reads .exit)) (now (writes .exit)) (now (sources .exit)) (now (seen .exit)) (now (targets .exit)) (now (written .exit)) (now (view .exit))) ≡ turned (tables (now (held .entry)) (now (timestamps .entry)) (now (order .entry)) (now (status .entry)) (now (withdrawn .entry)) (now (lengths .entry)) (now (programs .entry)) (now (reads .entry)) (now (writes .entry)) (now (sources .entry)) (now (seen .entry)) (now (targets .entry)) (now (written .entry)) (now (view .entry))) ⌝ }
 {
     let count = held[0] as usize;

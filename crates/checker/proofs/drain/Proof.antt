@@ -1,7 +1,8 @@
 -- `checker::drain` meets its contract: an outcome for each return. Assumes nothing.
 use mathlib.Core.Path.{refl}
 use Rattle.model.specs.Tables.{Tables, tables}
-use Rattle.tables.proofs.Faults.{Faultless, faultless}
+use Rattle.model.specs.Form.{Formed}
+use Rattle.tables.proofs.Faults.{faultless}
 use Rattle.checker.proofs.Outcomes.{drain-fault, formed, drain-done}
 use Rattle.checker.proofs.drain.Statement.{statement}
 use Rattle.checker.proofs.drain.Tie as tie
@@ -14,7 +15,7 @@ lent s =
 abbrev entry : tie.After-fault → tie.Start
 entry c = c .before .before .before .before .before .before .before .before .before .before .before .before .before .before .before .before .before .before .before .before
 
-fits : (c : tie.Else1) → let s = entry (c .before) in Faultless (s .args .n) (lent s)
+fits : (c : tie.Else1) → let s = entry (c .before) in Formed (s .args .n) (lent s)
 fits c = faultless _ (lent (entry (c .before))) (c .before .fault .ensures) (c .if1 .left)
 
 returns : tie.Need-returns

@@ -9,7 +9,7 @@ use lib.ListN.{length, getD, set, drop, length-set}
 use mir.Facts.{toZ-ofZ}
 use Rattle.machine.specs.Settings.{Environment, _orElse_, lookup, entries}
 use Rattle.model.specs.History.{eqZ}
-use Rattle.search.specs.Raw.{writesIn}
+use Rattle.model.specs.Tables.{listIn}
 use Rattle.execution.specs.Raw.{oldValues, newValues, isChanged, markedLive, markedValues}
 use Rattle.execution.proofs.Put.{put-ends, put-here, put-past}
 use Rattle.execution.proofs.Values.{same-bits, other-bits}
@@ -73,7 +73,7 @@ old-is : (c : tie.After-value-after2 Inv-loop μ-loop) → c .before .value-afte
 old-is c =
     let v = c .before .before .value-below in
     let a = entry (head c) .args in
-    c .before .value-after .ensures ∙ ap (λ u. lookup (writesIn (a .writes .now) (a .targets .now) (a .written .now) (a .place)) (setting (head c)) orElse u) (toZ-ofZ (sfits-of (v .ok)) ∙ v .ensures)
+    c .before .value-after .ensures ∙ ap (λ u. lookup (listIn (a .writes .now) (a .targets .now) (a .written .now) (a .place)) (setting (head c)) orElse u) (toZ-ofZ (sfits-of (v .ok)) ∙ v .ensures)
 
 new-is : (c : tie.After-value-after2 Inv-loop μ-loop) → c .value-after2 .result ≡ new (entry (head c)) (setting (head c))
 new-is c =

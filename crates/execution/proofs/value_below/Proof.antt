@@ -4,7 +4,7 @@ use mathlib.Core.Option.{Option}
 use borrow.Author.Needs.{needs, sfits-of}
 use lib.IntN.{ℤ}
 use mir.Facts.{toZ-ofZ}
-use Rattle.search.specs.Raw.{previousWrite}
+use Rattle.search.specs.Searches.{previousWrite}
 use Rattle.execution.proofs.Values.{found-value, found-none}
 use Rattle.execution.proofs.value_below.Statement.{statement}
 use Rattle.execution.proofs.value_below.Tie as tie

@@ -6,7 +6,7 @@ use native.Mathlib.Omega.{arith}
 use borrow.Author.Needs.{needs}
 use borrow.Author.Tests.{eq-eqb, ne-eqb}
 use lib.ListN.{length, getD}
-use Rattle.search.specs.Raw.{foundOf}
+use Rattle.search.specs.Searches.{foundOf}
 use Rattle.execution.specs.Raw.{firstFrom, isWaiting, waitingOf}
 use Rattle.execution.proofs.First.{firstUpTo, first-ends, first-here, first-next}
 use Rattle.execution.proofs.waiting.Statement.{statement}

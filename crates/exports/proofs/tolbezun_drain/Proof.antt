@@ -1,6 +1,6 @@
 -- `exports::tolbezun_drain` meets its contract: an outcome for each return. Assumes nothing.
 use Rattle.model.specs.Tables.{Tables, tables}
-use Rattle.numbers.proofs.Slices.{drain-length, drain-done}
+use Rattle.answer_numbers.proofs.Slices.{drain-length, drain-done}
 use Rattle.exports.proofs.tolbezun_drain.Statement.{statement}
 use Rattle.exports.proofs.tolbezun_drain.Tie as tie
 

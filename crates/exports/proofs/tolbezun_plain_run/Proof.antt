@@ -1,5 +1,5 @@
 -- `exports::tolbezun_plain_run` meets its contract: the number of what `plain_run` answers, and the settings that it leaves. Assumes nothing.
-use Rattle.numbers.proofs.Numbers.{plain-numbered}
+use Rattle.answer_numbers.proofs.Numbers.{plain-numbered}
 use Rattle.exports.proofs.tolbezun_plain_run.Statement.{statement}
 use Rattle.exports.proofs.tolbezun_plain_run.Tie as tie
 

@@ -1,6 +1,6 @@
 -- `exports::tolbezun_set_up` meets its contract: the number of what `set_up` answers, and the tables that it leaves. Assumes nothing.
 use Rattle.model.specs.Calls.{answerNumber}
-use Rattle.numbers.proofs.Numbers.{numbered}
+use Rattle.answer_numbers.proofs.Numbers.{numbered}
 use Rattle.exports.proofs.tolbezun_set_up.Statement.{statement}
 use Rattle.exports.proofs.tolbezun_set_up.Tie as tie
 

@@ -1,6 +1,6 @@
 -- `exports::tolbezun_standing` meets its contract: the number of what `standing` answers. Assumes nothing.
 use mathlib.Core.Path.{ap, _∙_}
-use Rattle.numbers.specs.Numbers.{standingNumber}
+use Rattle.answer_numbers.specs.Numbers.{standingNumber}
 use Rattle.exports.proofs.tolbezun_standing.Statement.{statement}
 use Rattle.exports.proofs.tolbezun_standing.Tie as tie
 

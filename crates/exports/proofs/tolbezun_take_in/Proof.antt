@@ -1,6 +1,6 @@
 -- `exports::tolbezun_take_in` meets its contract: the number of what `take_in` answers, and the tables that it leaves. Assumes nothing.
 use Rattle.model.specs.Calls.{answerNumber}
-use Rattle.numbers.proofs.Numbers.{numbered}
+use Rattle.answer_numbers.proofs.Numbers.{numbered}
 use Rattle.exports.proofs.tolbezun_take_in.Statement.{statement}
 use Rattle.exports.proofs.tolbezun_take_in.Tie as tie
 

@@ -1,5 +1,5 @@
 -- `exports::tolbezun_take_in_package` meets its contract: the number of what `take_in_package` answers, and the tables and answer bytes that it leaves. Assumes nothing.
-use Rattle.numbers.proofs.Numbers.{package-numbered}
+use Rattle.answer_numbers.proofs.Numbers.{package-numbered}
 use Rattle.exports.proofs.tolbezun_take_in_package.Statement.{statement}
 use Rattle.exports.proofs.tolbezun_take_in_package.Tie as tie
 

@@ -1,6 +1,6 @@
 -- `exports::tolbezun_turn` meets its contract: an outcome for each return. Assumes nothing.
 use Rattle.model.specs.Tables.{Tables, tables}
-use Rattle.numbers.proofs.Slices.{turned-fits, turn-length, turn-done}
+use Rattle.answer_numbers.proofs.Slices.{turned-fits, turn-length, turn-done}
 use Rattle.exports.proofs.tolbezun_turn.Statement.{statement}
 use Rattle.exports.proofs.tolbezun_turn.Tie as tie
 

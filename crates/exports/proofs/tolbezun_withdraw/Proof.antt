@@ -1,6 +1,6 @@
 -- `exports::tolbezun_withdraw` meets its contract: the number of what `withdraw` answers, and the tables that it leaves. Assumes nothing.
 use Rattle.model.specs.Calls.{answerNumber}
-use Rattle.numbers.proofs.Numbers.{numbered}
+use Rattle.answer_numbers.proofs.Numbers.{numbered}
 use Rattle.exports.proofs.tolbezun_withdraw.Statement.{statement}
 use Rattle.exports.proofs.tolbezun_withdraw.Tie as tie
 

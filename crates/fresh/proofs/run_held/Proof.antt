@@ -4,7 +4,7 @@ use mathlib.Core.Logic.{⊎-elim}
 use Prim.Native.Nat.{_≤_, _<_, _-_}
 use native.Mathlib.Omega.{arith}
 use lib.ListN.{length, getD}
-use Rattle.fresh.specs.Raw.{heldRun}
+use Rattle.fresh.specs.HeldRuns.{heldRun}
 use Rattle.fresh.proofs.HeldRun.{part-runs, length-held, held-none, held-run, held-passed}
 use Rattle.fresh.proofs.run_held.Statement.{statement}
 use Rattle.fresh.proofs.run_held.Tie as tie

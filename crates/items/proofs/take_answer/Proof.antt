@@ -6,7 +6,7 @@ use native.Mathlib.Omega.{arith}
 use borrow.Author.Needs.{needs}
 use borrow.Author.Tests.{le-leb, lt-leb}
 use lib.ListN.{length}
-use Rattle.search.specs.Raw.{positionOf}
+use Rattle.search.specs.Searches.{positionOf}
 use Rattle.search.proofs.Answers.{found-at, found-nothing}
 use Rattle.items.specs.Raw.{takeAnswerAt, takeAnswer}
 use Rattle.items.proofs.Places.{position-below, place-below}

@@ -6,7 +6,7 @@ use native.Mathlib.Omega.{arith}
 use borrow.Author.Needs.{needs}
 use borrow.Author.Tests.{eq-eqb, ne-eqb}
 use lib.ListN.{length, getD}
-use Rattle.search.specs.Raw.{positionOf}
+use Rattle.search.specs.Searches.{positionOf}
 use Rattle.search.proofs.Answers.{found-at, found-nothing}
 use Rattle.items.specs.Raw.{withdrawAnswerAt, withdrawAnswer}
 use Rattle.items.proofs.Places.{position-below, place-below}

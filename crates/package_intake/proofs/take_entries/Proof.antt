@@ -6,7 +6,7 @@ use borrow.Author.Tests.{ltb-true, ltb-false}
 use lib.Dec.{ltb}
 use Rattle.model.specs.Package.{entryCount, entryAt}
 use Rattle.packages.proofs.Entries.{laid-out}
-use Rattle.package_intake.specs.Entries.{ItemTables, itemTables, Formed, EntryReady}
+use Rattle.package_intake.specs.Entries.{ItemTables, itemTables, PartFormed, EntryReady}
 use Rattle.package_intake.proofs.Entries.{formed-lengths, bytes-short, entry-inside, body-inside, EntriesBefore, entries-none, still-formed, still-sized, answer-within, entry-ready, entries-next, entries-taken}
 use Rattle.package_intake.proofs.take_entries.Statement.{statement}
 use Rattle.package_intake.proofs.take_entries.Tie as tie
@@ -64,7 +64,7 @@ loop-again c =
     (refl, entries-next (start (i .before) .pre) (i .before .loop .inv .1) (more i) (c .before .before .before .before .before .before .before .before .before .before .before .before .before .before .before .before .take-entry .ensures) (c .before .answer-number .ensures) (c .count-at .ensures))
 
 -- the tables are in form at the end too
-formed : (c : tie.After-loop Inv-loop μ-loop) → Formed (start (c .before) .args .n) (current (c .before))
+formed : (c : tie.After-loop Inv-loop μ-loop) → PartFormed (start (c .before) .args .n) (current (c .before))
 formed c = still-formed (start (c .before) .pre) (c .before .loop .inv .1)
 
 returns : tie.Need-returns Inv-loop μ-loop

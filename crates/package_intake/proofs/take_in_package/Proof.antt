@@ -4,7 +4,8 @@ use mathlib.Core.Bool.{true}
 use borrow.Author.Tests.{not-true, not-false}
 use Rattle.model.specs.Tables.{Tables, tables}
 use Rattle.model.specs.Package.{layoutFits}
-use Rattle.tables.proofs.Faults.{Faultless, faultless}
+use Rattle.model.specs.Form.{Formed}
+use Rattle.tables.proofs.Faults.{faultless}
 use Rattle.packages.proofs.Outcomes.{package-wrong-length, package-fault, package-not-laid-out}
 use Rattle.package_intake.proofs.take_in_package.Statement.{statement}
 use Rattle.package_intake.proofs.take_in_package.Tie as tie
@@ -22,7 +23,7 @@ abbrev start : tie.After-fault → tie.Start
 start c = entry (c .before .before .before .before .before .before .before .before .before)
 
 -- what the tests tell
-fits : (c : tie.Else2) → let s = start (c .before) in Faultless (s .args .n) (lent s)
+fits : (c : tie.Else2) → let s = start (c .before) in Formed (s .args .n) (lent s)
 fits c = faultless _ (lent (start (c .before))) (c .before .fault .ensures) (c .if2 .left)
 
 laid : (c : tie.Else3) → layoutFits (start (c .before .before .before) .args .bytes .now) ≡ true

@@ -7,7 +7,7 @@ use borrow.Author.Needs.{needs}
 use lib.Dec.{eqb}
 use lib.ListN.{length}
 use Rattle.model.specs.Package.{entryAt, entryFits, countBefore}
-use Rattle.places.proofs.Checks.{Tested, test-none, test-next, test-last}
+use Rattle.form_places.proofs.Checks.{Tested, test-none, test-next, test-last}
 use Rattle.packages.proofs.Entries.{counts-next, counts-small}
 use Rattle.packages.proofs.bodies_fit.Statement.{statement}
 use Rattle.packages.proofs.bodies_fit.Tie as tie

@@ -5,8 +5,9 @@ use borrow.Author.Needs.{needs, sfits-of}
 use mir.Facts.{toZ-ofZ}
 use Rattle.model.specs.declared.Value.the-variants as value
 use Rattle.model.specs.Tables.{Tables, tables}
-use Rattle.model.proofs.Tests.{lengths-of}
-use Rattle.tables.proofs.Faults.{Faultless, faultless}
+use Rattle.model.specs.Form.{Formed}
+use Rattle.model.proofs.Form.{facts}
+use Rattle.tables.proofs.Faults.{faultless}
 use Rattle.queries.proofs.Outcomes.{current-fault, current-no-setting, current-is}
 use Rattle.queries.proofs.current_value.Statement.{statement}
 use Rattle.queries.proofs.current_value.Tie as tie
@@ -19,7 +20,7 @@ lent s =
 abbrev entry : tie.After-fault → tie.Start
 entry c = c .before .before .before .before .before .before .before .before .before .before .before .before
 
-fits : (c : tie.Else1) → let s = entry (c .before) in Faultless (s .args .n) (lent s)
+fits : (c : tie.Else1) → let s = entry (c .before) in Formed (s .args .n) (lent s)
 fits c = faultless _ (lent (entry (c .before))) (c .before .fault .ensures) (c .if1 .left)
 
 returns : tie.Need-returns
@@ -40,6 +41,6 @@ current-value-spec =
     (λ c κs. tt)
     returns
     (λ c. search needs)
-    (λ c. omega (arith, lengths-of _ _ (fits (c .before) .0) .view, c .if2 .taken))
+    (λ c. omega (arith, facts (fits (c .before)) .lengths .view, c .if2 .taken))
     returns-2
     returns-3)

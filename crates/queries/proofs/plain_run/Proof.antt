@@ -5,10 +5,11 @@ use native.Mathlib.Omega.{arith}
 use borrow.Author.Needs.{needs}
 use lib.IntN.{ℤ}
 use Rattle.model.specs.Tables.{Tables, tables, heldCount}
-use Rattle.model.proofs.Tests.{lengths-of}
-use Rattle.fresh.specs.Raw.{heldRun}
+use Rattle.model.specs.Form.{Formed}
+use Rattle.model.proofs.Form.{facts}
+use Rattle.fresh.specs.HeldRuns.{heldRun}
 use Rattle.fresh.proofs.Model.{runnable}
-use Rattle.tables.proofs.Faults.{Faultless, faultless}
+use Rattle.tables.proofs.Faults.{faultless}
 use Rattle.queries.proofs.Outcomes.{plain-wrong-length, plain-fault, plain-done}
 use Rattle.queries.proofs.plain_run.Statement.{statement}
 use Rattle.queries.proofs.plain_run.Tie as tie
@@ -24,7 +25,7 @@ entry c = c .before .before .before .before .before .before .before .before .bef
 abbrev entered : tie.After-fault → tie.Start
 entered c = entry (c .before .before)
 
-fits : (c : tie.Else2) → let s = entered (c .before) in Faultless (s .args .n) (lent s)
+fits : (c : tie.Else2) → let s = entered (c .before) in Formed (s .args .n) (lent s)
 fits c = faultless _ (lent (entered (c .before))) (c .before .fault .ensures) (c .if2 .left)
 
 returns : tie.Need-returns
@@ -37,7 +38,7 @@ run-held-requires : tie.Need-run-held-requires
 run-held-requires c κs =
     let f = c .before .before in
     let u = f .before .before .before in
-    (runnable _ (lent (entered (u .before))) (fits u .0) (fits u .1), f .fill-start .kept .0)
+    (runnable (fits u), f .fill-start .kept .0)
 
 returns-3 : tie.Need-returns-3
 returns-3 c =
@@ -55,7 +56,7 @@ plain-run-spec =
     returns
     (λ c κs. tt)
     returns-2
-    (λ c. omega (arith, lengths-of _ _ (fits (c .before) .0) .held))
+    (λ c. omega (arith, facts (fits (c .before)) .lengths .held))
     (λ c. omega (arith, c .shared-slice-known12 .given 0))
     (λ c. search needs)
     (λ c κs. search needs)

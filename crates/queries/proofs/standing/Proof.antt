@@ -8,10 +8,11 @@ use borrow.Author.Needs.{needs}
 use borrow.Author.Tests.{eqb-true, eqb-false}
 use Rattle.model.specs.History.{isTimestamp}
 use Rattle.model.specs.Tables.{Tables, tables}
-use Rattle.model.proofs.Tests.{lengths-of}
+use Rattle.model.specs.Form.{Formed}
+use Rattle.model.proofs.Form.{facts}
 use Rattle.search.proofs.Answers.{found-at, found-nothing}
 use Rattle.search.proofs.Model.{positionIn, placed-stamps}
-use Rattle.tables.proofs.Faults.{Faultless, faultless}
+use Rattle.tables.proofs.Faults.{faultless}
 use Rattle.queries.proofs.Outcomes.{not-timestamp, is-timestamp, Within, position-within, standing-fault, standing-no-timestamp, standing-not-held, standing-held}
 use Rattle.queries.proofs.standing.Statement.{statement}
 use Rattle.queries.proofs.standing.Tie as tie
@@ -24,7 +25,7 @@ lent s =
 abbrev entry : tie.After-fault → tie.Start
 entry c = c .before .before .before .before .before .before .before .before .before .before .before .before
 
-fits : (c : tie.Else1) → let s = entry (c .before) in Faultless (s .args .n) (lent s)
+fits : (c : tie.Else1) → let s = entry (c .before) in Formed (s .args .n) (lent s)
 fits c = faultless _ (lent (entry (c .before))) (c .before .fault .ensures) (c .if1 .left)
 
 returns : tie.Need-returns
@@ -48,7 +49,7 @@ stamped c = is-timestamp _ (entry (untested c .before) .fits .timestamp .fits) (
 position-requires : tie.Need-position-requires
 position-requires c κs =
     let u = c .before .before .before in
-    placed-stamps _ (lent (entry (u .before))) (fits u .0) (fits u .1)
+    placed-stamps (fits u)
 
 -- the position that is found
 found : (c : tie.After-k) → let s = entry (untested (c .before .before) .before) in positionIn (lent s) (s .args .timestamp) ≡ some (c .k .given .0 .0)
@@ -77,7 +78,7 @@ standing-spec =
     (λ c κs. tt)
     returns
     returns-2
-    (λ c. omega (arith, lengths-of _ _ (fits (c .before .before .before) .0) .held))
+    (λ c. omega (arith, facts (fits (c .before .before .before)) .lengths .held))
     (λ c. omega (arith, c .shared-slice-known12 .given 0))
     position-requires
     (λ c. search needs)

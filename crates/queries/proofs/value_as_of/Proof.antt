@@ -5,9 +5,10 @@ use borrow.Author.Needs.{sfits-of}
 use mir.Facts.{toZ-ofZ}
 use Rattle.model.specs.declared.Value.the-variants as value
 use Rattle.model.specs.Tables.{Tables, tables}
-use Rattle.model.proofs.Tests.{lengths-of}
+use Rattle.model.specs.Form.{Formed}
+use Rattle.model.proofs.Form.{facts}
 use Rattle.search.proofs.Model.{placed-stamps, listed}
-use Rattle.tables.proofs.Faults.{Faultless, faultless}
+use Rattle.tables.proofs.Faults.{faultless}
 use Rattle.queries.proofs.Outcomes.{as-of-fault, as-of-no-time, as-of-no-setting, as-of-placed, as-of-is}
 use Rattle.queries.proofs.value_as_of.Statement.{statement}
 use Rattle.queries.proofs.value_as_of.Tie as tie
@@ -20,7 +21,7 @@ lent s =
 abbrev entry : tie.After-fault → tie.Start
 entry c = c .before .before .before .before .before .before .before .before .before .before .before .before
 
-fits : (c : tie.Else1) → let s = entry (c .before) in Faultless (s .args .n) (lent s)
+fits : (c : tie.Else1) → let s = entry (c .before) in Formed (s .args .n) (lent s)
 fits c = faultless _ (lent (entry (c .before))) (c .before .fault .ensures) (c .if1 .left)
 
 returns : tie.Need-returns
@@ -37,13 +38,13 @@ returns-3 c =
 rank-requires : tie.Need-rank-requires
 rank-requires c κs =
     let u = c .before .before .before in
-    placed-stamps _ (lent (entry (u .before))) (fits u .0) (fits u .1)
+    placed-stamps (fits u)
 
 value-below-requires : tie.Need-value-below-requires
 value-below-requires c κs =
     let u = c .before .before .before .before in
     let T = lent (entry (u .before)) in
-    (as-of-placed _ T _ (fits u) (c .rank .ensures), listed _ T (fits u .0) (fits u .1))
+    (as-of-placed _ T _ (fits u) (c .rank .ensures), listed (fits u))
 
 returns-4 : tie.Need-returns-4
 returns-4 c =
@@ -60,7 +61,7 @@ value-as-of-spec =
     returns
     returns-2
     returns-3
-    (λ c. omega (arith, lengths-of _ _ (fits (c .before .before .before) .0) .held))
+    (λ c. omega (arith, facts (fits (c .before .before .before)) .lengths .held))
     (λ c. omega (arith, c .shared-slice-known12 .given 0))
     rank-requires
     (λ c. omega (arith, c .before .before .if3 .left))

@@ -3,7 +3,7 @@ use mathlib.Core.Path.{sym, _∙_}
 use native.Mathlib.Omega.{arith}
 use Rattle.model.specs.Tables.{Tables, tables}
 use Rattle.model.proofs.Tests.{Lengths, lengths-of}
-use Rattle.tables.proofs.Faults.{Faultless}
+use Rattle.model.specs.Form.{Formed}
 use Rattle.replies.specs.Replies.{capacity}
 use Rattle.replies.proofs.Turning.{turnsLeft, Turning, turning-begins, turning-goes-on, turning-short, turning-ends, turning-view}
 use Rattle.replies.proofs.put_turns.Statement.{statement}
@@ -25,7 +25,7 @@ lent s =
 abbrev entry : tie.At-loop Inv-loop μ-loop → tie.Start Inv-loop μ-loop
 entry l = l .before .before .before .before .before .before .before .before .before .before .before .before .before
 
-faultless : (s : tie.Start Inv-loop μ-loop) → Faultless capacity (lent s)
+faultless : (s : tie.Start Inv-loop μ-loop) → Formed capacity (lent s)
 faultless s = (s .pre .0, s .pre .1 .0)
 
 -- the lengths at the start and at the end

@@ -5,7 +5,7 @@ use native.Mathlib.Omega.{arith}
 use borrow.Author.Needs.{needs, sfits-of}
 use lib.ListN.{length, getD}
 use mir.Facts.{toZ-ofZ}
-use Rattle.search.specs.Raw.{writtenOf, previousWrite}
+use Rattle.search.specs.Searches.{writtenOf, previousWrite}
 use Rattle.search.proofs.Steps.{previous-here, previous-lower}
 use Rattle.search.proofs.previous_write.Statement.{statement}
 use Rattle.search.proofs.previous_write.Tie as tie

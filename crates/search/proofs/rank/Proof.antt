@@ -3,7 +3,7 @@ use mathlib.Core.Path.{_≡_, refl, _∙_}
 use Prim.Native.Nat.{_≤_, _-_}
 use native.Mathlib.Omega.{arith}
 use borrow.Author.Needs.{needs}
-use Rattle.search.specs.Raw.{rankOf}
+use Rattle.search.specs.Searches.{rankOf}
 use Rattle.search.proofs.Steps.{rank-here, rank-lower}
 use Rattle.search.proofs.rank.Statement.{statement}
 use Rattle.search.proofs.rank.Tie as tie

@@ -5,7 +5,7 @@ use native.Mathlib.Omega.{arith}
 use borrow.Author.Needs.{needs, sfits-of}
 use mir.Facts.{toZ-ofZ}
 use Rattle.machine.specs.Settings.{entries, lookup}
-use Rattle.search.specs.Raw.{writtenOf}
+use Rattle.search.specs.Searches.{writtenOf}
 use Rattle.search.proofs.Steps.{firstWrites, write-here, write-lower}
 use Rattle.search.proofs.written_at.Statement.{statement}
 use Rattle.search.proofs.written_at.Tie as tie

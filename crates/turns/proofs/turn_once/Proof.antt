@@ -2,7 +2,7 @@
 use native.Mathlib.Omega.{arith}
 use borrow.Author.Needs.{needs}
 use Rattle.model.specs.Tables.{Tables, tables}
-use Rattle.model.proofs.Tests.{lengths-of}
+use Rattle.model.proofs.Form.{facts}
 use Rattle.search.proofs.Answers.{found-at, found-nothing}
 use Rattle.execution.proofs.Model.{placed-status}
 use Rattle.turns.proofs.Model.{turn-idle}
@@ -32,9 +32,9 @@ pub turn-once-spec : {M : Type 1} → statement M
 turn-once-spec =
     tie.close
     (tie.spec
-    (λ c. omega (arith, lengths-of _ _ (c .before .before .before .before .before .before .before .before .before .before .before .before .pre .0) .held))
+    (λ c. omega (arith, facts (c .before .before .before .before .before .before .before .before .before .before .before .before .pre) .lengths .held))
     (λ c. omega (arith, c .shared-slice-known7 .given 0))
-    (λ c κs. let s = c .before .before .before .before .before .before .before .before .before .before .before .before .before in placed-status _ (lent s) (s .pre .0) (s .pre .1))
+    (λ c κs. let s = c .before .before .before .before .before .before .before .before .before .before .before .before .before in placed-status (s .pre))
     (λ c. search needs)
     turn-at-requires
     (λ c. search needs)

@@ -4,7 +4,6 @@ use mathlib.Core.Bool.{true}
 use borrow.Author.Tests.{not-true, not-false}
 use Rattle.model.specs.Tables.{Tables, tables}
 use Rattle.model.specs.Form.{lengthsFit}
-use Rattle.model.proofs.Tests.{lengths-of}
 use Rattle.tables.proofs.Checks.{lengths-numbers, lengths-wrong, form-wrong, none-wrong}
 use Rattle.tables.proofs.form.fault.Statement.{statement}
 use Rattle.tables.proofs.form.fault.Tie as tie
@@ -28,7 +27,7 @@ right : (c : tie.Else1) → lengthsFit (entry (c .before) .args .n) (lent (entry
 right c = sym (tested (c .before)) ∙ not-false _ (c .if1 .left)
 
 in-form-requires : tie.Need-in-form-requires
-in-form-requires c κs = lengths-of _ _ (right c)
+in-form-requires c κs = right c
 
 returns-2 : tie.Need-returns-2
 returns-2 c = form-wrong _ _ (right (c .before .before)) (sym (c .before .in-form .ensures) ∙ not-true _ (c .if2 .taken))

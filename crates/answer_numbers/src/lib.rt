@@ -1,0 +1,81 @@
+// Answers as numbers: the answer bytes of a package, and what programs in other languages get.
+use model::Answer;
+use model::Drained;
+use model::Standing;
+use model::Turned;
+use model::Value;
+ghost use mathlib.Core.Path.{_≡_};
+ghost use Prim.Native.Nat.{_<_};
+ghost use lib.ListN.{length};
+ghost use Rattle.model.specs.Calls.{answerNumber};
+ghost use Rattle.answer_numbers.specs.Numbers.{valueNumber, standingNumber, turnedNumber, turnedTimestamp, drainedNumber, drainedTotals};
+
+// 0 done, 255 held already, else the refusal.
+pub fn answer_number(answer: Answer) -> u8
+    ensures { λ r. ⌜ r ≡ answerNumber answer ⌝ }
+{
+    match answer {
+        Answer::Done => 0,
+        Answer::Held => 255,
+        Answer::Refused(refusal) => refusal,
+    }
+}
+
+// A value, or 4,294,967,296 + the refusal.
+pub fn value_number(value: Value) -> i64
+    ensures { λ r. ⌜ r ≡ valueNumber value ⌝ }
+{
+    match value {
+        Value::Is(v) => v as i64,
+        Value::Refused(refusal) => 4294967296 + refusal as i64,
+    }
+}
+
+// Status + 256 × flag, or 65,536 + the refusal.
+pub fn standing_number(standing: Standing) -> u32
+    ensures { λ r. ⌜ r ≡ standingNumber standing ⌝ }
+{
+    match standing {
+        Standing::At(status, flag) => status as u32 + flag as u32 * 256,
+        Standing::Refused(refusal) => 65536 + refusal as u32,
+    }
+}
+
+// 0 idle, 1 ran, 2 stood, 3 cleared, or 16 + the refusal; the slice gets the timestamp of the change whose turn it was.
+pub fn put_timestamp(answer: Turned, timestamp: &mut [u64]) -> u8
+    requires { ⌜ (length (now timestamp) ≡ 1) × (turnedNumber answer < 256) ⌝ }
+    ensures { λ r. ⌜ (r ≡ turnedNumber answer) × (now (timestamp .exit) ≡ turnedTimestamp answer (now (timestamp .entry))) ⌝ }
+{
+    match answer {
+        Turned::Idle => 0,
+        Turned::Ran(t) => {
+            timestamp[0] = t;
+            1
+        }
+        Turned::Stood(t) => {
+            timestamp[0] = t;
+            2
+        }
+        Turned::Cleared(t) => {
+            timestamp[0] = t;
+            3
+        }
+        Turned::Refused(refusal) => 16 + refusal,
+    }
+}
+
+// 0 done, else the refusal; the slice gets how many turns ran, stood and were cleared.
+pub fn put_totals(answer: Drained, totals: &mut [u64]) -> u8
+    requires { ⌜ length (now totals) ≡ 3 ⌝ }
+    ensures { λ r. ⌜ (r ≡ drainedNumber answer) × (now (totals .exit) ≡ drainedTotals answer (now (totals .entry))) ⌝ }
+{
+    match answer {
+        Drained::Counted(counts) => {
+            totals[0] = counts.ran as u64;
+            totals[1] = counts.stood as u64;
+            totals[2] = counts.cleared as u64;
+            0
+        }
+        Drained::Refused(refusal) => refusal,
+    }
+}
