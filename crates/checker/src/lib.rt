@@ -7,7 +7,7 @@ use turns::turn_once;
 ghost use mathlib.Core.Path.{_≡_};
 ghost use Prim.Native.Nat.{_≤_};
 ghost use lib.ListN.{length};
-ghost use Rattle.model.specs.Tables.{tables};
+ghost use Rattle.model.specs.Tables.{tables, withTurn};
 ghost use Rattle.model.specs.Calls.{reply, turn, drain};
 ghost use Rattle.model.specs.Form.{Formed};
 ghost use Rattle.checker.specs.Raw.{countedIn, goesOn, drained};
@@ -30,7 +30,16 @@ pub fn turn(
     written: &mut [i32],
     view: &mut [i32],
 ) -> Turned
-    ensures { λ r. ⌜ reply r (tables (now (held .entry)) (now (timestamps .entry)) (now (order .entry)) (now (status .exit)) (now (withdrawn .entry)) (now (lengths .entry)) (now (programs .entry)) (now (reads .exit)) (now (writes .exit)) (now (sources .exit)) (now (seen .exit)) (now (targets .exit)) (now (written .exit)) (now (view .exit))) ≡ turn n (tables (now (held .entry)) (now (timestamps .entry)) (now (order .entry)) (now (status .entry)) (now (withdrawn .entry)) (now (lengths .entry)) (now (programs .entry)) (now (reads .entry)) (now (writes .entry)) (now (sources .entry)) (now (seen .entry)) (now (targets .entry)) (now (written .entry)) (now (view .entry))) ⌝ }
+    ensures { λ r. ⌜
+        (let T =
+        tables (now (held .entry)) (now (timestamps .entry)) (now (order .entry)) (now (status .entry)) (now (withdrawn .entry))
+        (now (lengths .entry)) (now (programs .entry)) (now (reads .entry)) (now (writes .entry)) (now (sources .entry))
+        (now (seen .entry)) (now (targets .entry)) (now (written .entry)) (now (view .entry)) in
+        reply r
+        (withTurn T (now (status .exit)) (now (reads .exit)) (now (writes .exit)) (now (sources .exit)) (now (seen .exit))
+        (now (targets .exit)) (now (written .exit)) (now (view .exit)))
+        ≡ turn n T)
+        ⌝ }
 {
     let refusal = fault(
         n,

@@ -2,6 +2,7 @@
 use mathlib.Core.Path.{refl}
 use Rattle.model.specs.Tables.{Tables, tables}
 use Rattle.model.specs.Form.{Formed}
+use Rattle.tables.proofs.Kept.{status-kept, reads-kept, writes-kept, sources-kept, seen-kept, targets-kept, written-kept, view-kept}
 use Rattle.tables.proofs.Faults.{faultless}
 use Rattle.checker.proofs.Outcomes.{turn-fault, formed, turn-done}
 use Rattle.checker.proofs.turn.Statement.{statement}
@@ -26,9 +27,13 @@ turn-once-requires c κs =
     let u = c .before .before .before .before .before .before .before .before in
     formed _ (lent (entry (u .before))) (fits u)
 
+-- the call, from the return
+abbrev called : tie.After-view → tie.After-turn-once
+called c = c .before .before .before .before .before .before .before .before .before .before .before .before .before
+
 returns-2 : tie.Need-returns-2
 returns-2 c =
-    let t = c .before .before .before .before .before .before .before .before .before .before .before .before .before in
+    let t = called c in
     let u = t .before .before .before .before .before .before .before .before .before in
     turn-done _ (lent (entry (u .before))) (fits u) (t .turn-once .ensures)
 
@@ -47,12 +52,12 @@ turn-spec =
     (λ c. refl)
     returns
     turn-once-requires
-    (λ c. c .before .before .before .before .before .before .before .before .before .before .before .before .before .turn-once .kept .1 .1 .1 .0)
-    (λ c. c .before .before .before .before .before .before .before .before .before .before .before .before .before .turn-once .kept .1 .1 .1 .1 .1 .1 .1 .0)
-    (λ c. c .before .before .before .before .before .before .before .before .before .before .before .before .before .turn-once .kept .1 .1 .1 .1 .1 .1 .1 .1 .0)
-    (λ c. c .before .before .before .before .before .before .before .before .before .before .before .before .before .turn-once .kept .1 .1 .1 .1 .1 .1 .1 .1 .1 .0)
-    (λ c. c .before .before .before .before .before .before .before .before .before .before .before .before .before .turn-once .kept .1 .1 .1 .1 .1 .1 .1 .1 .1 .1 .0)
-    (λ c. c .before .before .before .before .before .before .before .before .before .before .before .before .before .turn-once .kept .1 .1 .1 .1 .1 .1 .1 .1 .1 .1 .1 .0)
-    (λ c. c .before .before .before .before .before .before .before .before .before .before .before .before .before .turn-once .kept .1 .1 .1 .1 .1 .1 .1 .1 .1 .1 .1 .1 .0)
-    (λ c. c .before .before .before .before .before .before .before .before .before .before .before .before .before .turn-once .kept .1 .1 .1 .1 .1 .1 .1 .1 .1 .1 .1 .1 .1 .0)
+    (λ c. status-kept (called c .turn-once .kept))
+    (λ c. reads-kept (called c .turn-once .kept))
+    (λ c. writes-kept (called c .turn-once .kept))
+    (λ c. sources-kept (called c .turn-once .kept))
+    (λ c. seen-kept (called c .turn-once .kept))
+    (λ c. targets-kept (called c .turn-once .kept))
+    (λ c. written-kept (called c .turn-once .kept))
+    (λ c. view-kept (called c .turn-once .kept))
     returns-2)
