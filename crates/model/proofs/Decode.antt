@@ -17,7 +17,7 @@ use Rattle.model.specs.Sound.{Rising, ChangeSound, Below, Placed, Sound}
 use Rattle.model.proofs.Tabulate.{length-tabulate, getD-tabulate}
 use Rattle.model.proofs.Blocks.{pad-is, column-is, blocks-is, slots-room, slots-length, restOf-length, slots-pad}
 use Rattle.model.proofs.Entries.{settings-entries, values-entries, length-entries, distinct-of}
-use Rattle.model.proofs.Tests.{zeros, zerosZ, Lengths, Listed, FormTests}
+use Rattle.model.proofs.Tests.{zeros, zerosZ, Lengths, TestedList, FormTests}
 use Rattle.model.proofs.Order.{changesAt-length, changesAt-get, rising-of, rising-distinct, below-of, placed-of}
 use Rattle.model.proofs.Tables.{all-sound}
 
@@ -34,7 +34,7 @@ record Laid (counts settings : List ℕ) (values : List ℤ) (i : ℕ) : Type 0 
   settings-block : slots 32 i 32 settings ≡ pad 32 0 (settingsOf (listAt counts settings values i))
   values-block : slots 32 i 32 values ≡ pad 32 (pos 0) (valuesOf (listAt counts settings values i))
 
-list-laid : (n : ℕ) (counts settings : List ℕ) (values : List ℤ) → length settings ≡ 32 * n → length values ≡ 32 * n → (i : ℕ) → i < n → Listed counts settings values i → Laid counts settings values i
+list-laid : (n : ℕ) (counts settings : List ℕ) (values : List ℤ) → length settings ≡ 32 * n → length values ≡ 32 * n → (i : ℕ) → i < n → TestedList counts settings values i → Laid counts settings values i
 list-laid n counts settings values es ev i h l =
     let k = getD counts i 0 in
     let settings-room = slots-room n 32 i k settings es h (l .short) in

@@ -15,7 +15,7 @@ use Rattle.model.specs.Form.{timestampOf}
 use Rattle.model.specs.Sound.{ChangeSound, Sound}
 use Rattle.model.proofs.Blocks.{pad-length, column-length, column-get, column-rest, Fits, blocks-length, blocks-rest, blocks-unused}
 use Rattle.model.proofs.Entries.{distinct-fits}
-use Rattle.model.proofs.Tests.{zeros-pass, zerosZ-pass, Lengths, Head, Programmed, Listed, Unused, FormTests}
+use Rattle.model.proofs.Tests.{zeros-pass, zerosZ-pass, Lengths, Head, Programmed, TestedList, Unused, FormTests}
 use Rattle.model.proofs.Order.{changesAt-length, changesAt-get, rising-next, below-at}
 use Rattle.model.proofs.Tables.{length-short, sound-at, programs-fit, reads-fit, writes-fit, settings-fit, values-fit, settings-back, timestamp-at, order-at, status-at, withdrawn-at, length-at, reads-at, writes-at, status-back, length-back, program-back}
 
@@ -107,7 +107,7 @@ module _ (n : ℕ) (c : Cabinet) (s : Sound n c) (i : ℕ) (h : i < length (c .c
       }
 
 -- a list of entries, in its count and its two columns
-list-form : (n : ℕ) (f : Change → List Entry) (changes : List Change) (i : ℕ) → Fits 32 f changes → i < length changes → f blank ≡ [] → Bounded (f (getD changes i blank)) → Listed (column n 0 (λ d. length (f d)) changes) (blocks n 32 0 (λ d. settingsOf (f d)) changes) (blocks n 32 (pos 0) (λ d. valuesOf (f d)) changes) i
+list-form : (n : ℕ) (f : Change → List Entry) (changes : List Change) (i : ℕ) → Fits 32 f changes → i < length changes → f blank ≡ [] → Bounded (f (getD changes i blank)) → TestedList (column n 0 (λ d. length (f d)) changes) (blocks n 32 0 (λ d. settingsOf (f d)) changes) (blocks n 32 (pos 0) (λ d. valuesOf (f d)) changes) i
 list-form n f changes i k h b l =
     let list = f (getD changes i blank) in
     let count : getD (column n 0 (λ d. length (f d)) changes) i 0 ≡ length list = column-get n 0 (λ d. length (f d)) changes i (ap length b) in

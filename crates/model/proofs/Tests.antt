@@ -152,13 +152,13 @@ program-fits : (T : Tables) (i : ℕ) → Programmed T i → programFits (T .len
 program-fits T i h = rw (le-leb _ _ (h .short), h .formed, h .rest)
 
 -- what listFits tests
-pub record Listed (counts settings : List ℕ) (values : List ℤ) (i : ℕ) : Type 0 where
+pub record TestedList (counts settings : List ℕ) (values : List ℤ) (i : ℕ) : Type 0 where
   pub short : getD counts i 0 ≤ 32
   pub distinct : distinctSettings (slots 32 i (getD counts i 0) settings) ≡ true
   pub settings-rest : allZero (restOf 32 i (getD counts i 0) settings) ≡ true
   pub values-rest : allZeroZ (restOf 32 i (getD counts i 0) values) ≡ true
 
-list-of : (counts settings : List ℕ) (values : List ℤ) (i : ℕ) → listFits counts settings values i ≡ true → Listed counts settings values i
+list-of : (counts settings : List ℕ) (values : List ℤ) (i : ℕ) → listFits counts settings values i ≡ true → TestedList counts settings values i
 list-of counts settings values i e =
     let c = getD counts i 0 in
     let e0 = both (leb c 32) e in
@@ -166,7 +166,7 @@ list-of counts settings values i e =
     let e2 = both (allZero (restOf 32 i c settings)) (e1 .1) in
     record { short = leb-true _ _ (e0 .0); distinct = e1 .0; settings-rest = e2 .0; values-rest = both _ (e2 .1) .0 }
 
-list-fits : (counts settings : List ℕ) (values : List ℤ) (i : ℕ) → Listed counts settings values i → listFits counts settings values i ≡ true
+list-fits : (counts settings : List ℕ) (values : List ℤ) (i : ℕ) → TestedList counts settings values i → listFits counts settings values i ≡ true
 list-fits counts settings values i h = rw (le-leb _ _ (h .short), h .distinct, h .settings-rest, h .values-rest)
 
 previous : (k : ℕ) → suc k - 1 ≡ k
@@ -219,8 +219,8 @@ pub record FormTests (n : ℕ) (T : Tables) : Type 0 where
   pub places : (k : ℕ) → k < heldCount T → getD (T .order) k 0 < heldCount T
   pub rising : (k : ℕ) → suc k < heldCount T → timestampOf (T .order) (T .timestamps) k < timestampOf (T .order) (T .timestamps) (suc k)
   pub programs : (i : ℕ) → i < heldCount T → Programmed T i
-  pub reads : (i : ℕ) → i < heldCount T → Listed (T .reads) (T .sources) (T .seen) i
-  pub writes : (i : ℕ) → i < heldCount T → Listed (T .writes) (T .targets) (T .written) i
+  pub reads : (i : ℕ) → i < heldCount T → TestedList (T .reads) (T .sources) (T .seen) i
+  pub writes : (i : ℕ) → i < heldCount T → TestedList (T .writes) (T .targets) (T .written) i
   pub unused : Unused T (heldCount T)
 
 pub form-of : (n : ℕ) (T : Tables) → inForm n T ≡ true → FormTests n T

@@ -73,8 +73,8 @@ changeset old new upto x =
 
 -- does a read list have a setting of a set
 abbrev pub readsAny : (ℕ → Bool) → List Entry → Bool
-readsAny set [] = false
-readsAny set (e ∷ l) = set (e .setting) || readsAny set l
+readsAny changes [] = false
+readsAny changes (e ∷ l) = changes (e .setting) || readsAny changes l
 
 -- a Valid update that is to be marked becomes Invalid
 abbrev pub mark : Bool → Status → Status
@@ -88,12 +88,12 @@ markUpdate b (change t p s w l) = change t p (mark b s) w l
 
 -- mark U Invalid where U > T, and U ≤ Next-Writer(x, T) and x in Readset(U) for some x of the changeset
 abbrev pub markFuture : History → ℕ → (ℕ → Bool) → Change → Change
-markFuture h t set u =
-    markUpdate (ltb t (timestamp u) && readsAny (λ x. set x && leb (timestamp u) (nextWriter h x t)) (lists u .reads)) u
+markFuture h t changes u =
+    markUpdate (ltb t (timestamp u) && readsAny (λ x. changes x && leb (timestamp u) (nextWriter h x t)) (lists u .reads)) u
 
 -- if T ≥ Last-Writer(x) then update x in current database copy
 abbrev pub updateView : History → ℕ → (ℕ → Bool) → Environment → List ℤ → List ℤ
-updateView h t set new view = allSettings (λ x. cond (set x && leb (lastWriter h x) t) (new x) (valueIn view x))
+updateView h t changes new view = allSettings (λ x. cond (changes x && leb (lastWriter h x) t) (new x) (valueIn view x))
 
 -- the update of timestamp t replaced
 abbrev pub replace : ℕ → Change → Change → Change

@@ -32,7 +32,7 @@ empty = record { reads = []; writes = [] }
 
 -- the lists that a program's run leaves
 unfoldable pub runLists : Environment → List ℕ → Lists
-runLists env program = record { reads = run env program .reads; writes = run env program .writes }
+runLists env p = record { reads = run env p .reads; writes = run env p .writes }
 
 -- a held change: timestamp, program, status, withdrawn or not, and the lists of its last run
 pub data Change : Type 0 where
