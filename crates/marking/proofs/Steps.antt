@@ -53,10 +53,10 @@ lent-list place counts settings =
     let e : 32 * place + getD counts place 0 - 32 * place ≡ getD counts place 0 = omega arith in
     ap (λ (m : ℕ). take m (drop (32 * place) settings)) e
 
-pub lent-below : {place limit : ℕ} {counts settings : List ℕ} → Listed place counts settings limit → (j : ℕ) → j < length (lent place counts settings) → getD (lent place counts settings) j 0 < limit
-lent-below {place} {limit} {counts} {settings} p j h =
+pub lent-below : {place size : ℕ} {counts settings : List ℕ} → Listed place counts settings → size ≡ 1024 → (j : ℕ) → j < length (lent place counts settings) → getD (lent place counts settings) j 0 < size
+lent-below {place} {counts = counts} {settings} p e j h =
     let q : j < getD counts place 0 = omega (arith, length-take (32 * place + getD counts place 0 - 32 * place) (drop (32 * place) settings)) in
-    rw (lent-list place counts settings, getD-take (getD counts place 0) (drop (32 * place) settings) j 0 q, getD-drop) (p .below j q)
+    rw (e, lent-list place counts settings, getD-take (getD counts place 0) (drop (32 * place) settings) j 0 q, getD-drop) (p .below j q)
 
 -- a Valid change is marked by what its lent list reads
 module _ (live reads sources : List ℕ) (place : ℕ) (status : List ℕ) (v : getD status place 0 ≡ 1) {r : Bool} (e : r ≡ readsLive live (lent place reads sources)) where
@@ -71,17 +71,17 @@ module _ (live reads sources : List ℕ) (place : ℕ) (status : List ℕ) (v : 
 
 -- ---- along the order list
 
-module _ {count places k : ℕ} {order reads sources writes targets : List ℕ} (w : Walkable count order places reads sources writes targets) (h : k < count) {limit : ℕ} (e : limit ≡ 1024) where
+module _ {count places k : ℕ} {order reads sources writes targets : List ℕ} (w : Walkable count order places reads sources writes targets) (h : k < count) where
   -- the lists of the change at a position
-  pub reads-listed : Listed (getD order k 0) reads sources limit
+  pub reads-listed : Listed (getD order k 0) reads sources
   reads-listed =
       let p = w .below k h in
-      record { counted = omega (arith, w .read-counts); room = omega (arith, w .read-slots, w .reads-short _ p); below = λ j q. omega (arith, w .reads-settings _ j p q) }
+      record { counted = omega (arith, w .read-counts); room = omega (arith, w .read-slots, w .reads-short _ p); below = λ j q. w .reads-settings _ j p q }
 
-  pub writes-listed : Listed (getD order k 0) writes targets limit
+  pub writes-listed : Listed (getD order k 0) writes targets
   writes-listed =
       let p = w .below k h in
-      record { counted = omega (arith, w .write-counts); room = omega (arith, w .write-slots, w .writes-short _ p); below = λ j q. omega (arith, w .writes-settings _ j p q) }
+      record { counted = omega (arith, w .write-counts); room = omega (arith, w .write-slots, w .writes-short _ p); below = λ j q. w .writes-settings _ j p q }
 
 -- from position k on the definitions give what they give from the first position on
 pub record Walked (count : ℕ) (order reads sources writes targets : List ℕ) (from : ℕ) (live₀ status₀ : List ℕ) (k : ℕ) (live status : List ℕ) : Type 0 where

@@ -53,11 +53,11 @@ replaced place list l = take (32 * place) l ++ pad 32 0 list ++ drop (32 * place
 unfoldable pub replacedZ : ℕ → List ℤ → List ℤ → List ℤ
 replacedZ place list l = take (32 * place) l ++ pad 32 (pos 0) list ++ drop (32 * place + 32) l
 
--- what the code relies on at a place: its list stands in the table, and its settings are below a limit
-pub record Listed (place : ℕ) (counts settings : List ℕ) (limit : ℕ) : Type 0 where
+-- what the code relies on at a place: its list stands in the table, and its settings are below 1,024
+pub record Listed (place : ℕ) (counts settings : List ℕ) : Type 0 where
   pub counted : place < length counts
   pub room : 32 * place + getD counts place 0 ≤ length settings
-  pub below : (j : ℕ) → j < getD counts place 0 → getD settings (32 * place + j) 0 < limit
+  pub below : (j : ℕ) → j < getD counts place 0 → getD settings (32 * place + j) 0 < 1024
 
 -- what the code relies on: places that the tables have, counts of at most 32, settings below 1,024
 pub record Walkable (count : ℕ) (order : List ℕ) (places : ℕ) (reads sources writes targets : List ℕ) : Type 0 where

@@ -32,7 +32,7 @@ fn close(settings: &[u16], live: &mut [u8])
 
 // A Valid change that read a live setting becomes Invalid.
 fn mark_place(place: usize, status: &mut [u16], reads: &[u16], sources: &[u16], live: &[u8])
-    requires { ⌜ (place < length (now status)) × Listed place (now reads) (now sources) (length (now live)) ⌝ }
+    requires { ⌜ (place < length (now status)) × Listed place (now reads) (now sources) × (length (now live) ≡ 1024) ⌝ }
     ensures { λ _. ⌜ now (status .exit) ≡ markedPlace (now (live .entry)) (now (reads .entry)) (now (sources .entry)) place (now (status .entry)) ⌝ }
 {
     if status[place] == 1 {
@@ -46,12 +46,34 @@ fn mark_place(place: usize, status: &mut [u16], reads: &[u16], sources: &[u16], 
 
 // What the change at a place writes is live no more.
 fn close_place(place: usize, writes: &[u16], targets: &[u16], live: &mut [u8])
-    requires { ⌜ Listed place (now writes) (now targets) (length (now live)) ⌝ }
+    requires { ⌜ Listed place (now writes) (now targets) × (length (now live) ≡ 1024) ⌝ }
     ensures { λ _. ⌜ now (live .exit) ≡ closed (listAt (now (writes .entry)) (now (targets .entry)) place) (now (live .entry)) ⌝ }
 {
     let begin = 32 * place;
     let end = begin + writes[place] as usize;
     close(&targets[begin..end], live);
+}
+
+// One change: it is marked, and then what it writes is live no more. So the next writer of a setting is still marked where it read it.
+fn mark_and_close(
+    place: usize,
+    status: &mut [u16],
+    reads: &[u16],
+    sources: &[u16],
+    writes: &[u16],
+    targets: &[u16],
+    live: &mut [u8],
+)
+    requires { ⌜ (place < length (now status))
+        × Listed place (now reads) (now sources)
+        × Listed place (now writes) (now targets)
+        × (length (now live) ≡ 1024) ⌝ }
+    ensures { λ _. ⌜
+        (now (status .exit) ≡ markedPlace (now (live .entry)) (now (reads .entry)) (now (sources .entry)) place (now (status .entry)))
+        × (now (live .exit) ≡ closed (listAt (now (writes .entry)) (now (targets .entry)) place) (now (live .entry))) ⌝ }
+{
+    mark_place(place, status, reads, sources, live);
+    close_place(place, writes, targets, live);
 }
 
 // From a position of the order list up: a Valid change that read a live setting becomes Invalid, and then what it writes is live no more.
@@ -72,8 +94,7 @@ pub fn mark_later(
     let mut k = from;
     while k < count {
         let place = order[k] as usize;
-        mark_place(place, status, reads, sources, live);
-        close_place(place, writes, targets, live);
+        mark_and_close(place, status, reads, sources, writes, targets, live);
         k += 1;
     }
 }

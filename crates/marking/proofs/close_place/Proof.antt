@@ -26,6 +26,6 @@ close-place-spec =
     (λ c. search needs)
     (λ c. search needs)
     (λ c. search needs)
-    (λ c κs. lent-below (c .before .before .before .before .before .before .pre))
+    (λ c κs. let p = c .before .before .before .before .before .before .pre in lent-below (p .0) (p .1))
     (λ c. search needs)
     returns)

@@ -17,22 +17,19 @@ abbrev μ-loop : tie.MeasureT-loop
 abbrev start : tie.In-loop Inv-loop μ-loop → tie.Start Inv-loop μ-loop
 start c = c .before .before .before .before .before .before .before .before .before
 
-mark-place-requires : tie.Need-mark-place-requires Inv-loop μ-loop
-mark-place-requires c κs =
+mark-and-close-requires : tie.Need-mark-and-close-requires Inv-loop μ-loop
+mark-and-close-requires c κs =
     let t = c .before .before .before in
     let w = start t .pre .1 in
     let l = t .before .loop in
-    (omega (arith, l .inv .places, w .below (l .k) (t .loop-test .taken)), reads-listed w (t .loop-test .taken) (l .inv .settings ∙ start t .pre .2))
-
-close-place-requires : tie.Need-close-place-requires Inv-loop μ-loop
-close-place-requires c κs =
-    let t = c .before .before .before .before .before .before .before in
-    writes-listed (start t .pre .1) (t .loop-test .taken) (t .before .loop .inv .settings ∙ start t .pre .2)
+    let h = t .loop-test .taken in
+    (omega (arith, l .inv .places, w .below (l .k) h), reads-listed w h, writes-listed w h, l .inv .settings ∙ start t .pre .2)
 
 loop-again : tie.Need-loop-again Inv-loop μ-loop
 loop-again c =
-    let t = c .before .before .before .before .before .before .before .before .before .before in
-    walked-next (t .before .loop .inv) (t .loop-test .taken) (c .before .before .before .before .before .before .mark-place .ensures) (c .before .before .close-place .ensures)
+    let m = c .before .before .before .before in
+    let t = m .before .before .before .before in
+    walked-next (t .before .loop .inv) (t .loop-test .taken) (m .mark-and-close .ensures .0) (m .mark-and-close .ensures .1)
 
 pub mark-later-spec : {M : Type 1} → statement M
 mark-later-spec =
@@ -44,8 +41,7 @@ mark-later-spec =
     (λ c. search needs)
     (λ c. omega (arith, start (c .before) .pre .1 .long))
     (λ c. omega (arith, c .shared-slice-known6 .given (c .before .before .loop .k)))
-    mark-place-requires
-    close-place-requires
+    mark-and-close-requires
     (λ c. search needs)
     (λ c. search needs)
     loop-again

@@ -33,7 +33,7 @@ mark-place-spec =
     (λ c. search needs)
     (λ c. search needs)
     (λ c. search needs)
-    (λ c κs. lent-below (c .before .before .before .before .before .before .before .before .pre .1))
+    (λ c κs. let p = c .before .before .before .before .before .before .before .before .pre in lent-below (p .1) (p .2))
     (λ c. search needs)
     (λ c. search needs)
     (λ c. search needs)
