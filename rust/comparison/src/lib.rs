@@ -16,6 +16,7 @@ pub mod both;
 pub mod generate;
 pub mod proved;
 pub mod reached;
+pub mod seeds;
 pub mod turns;
 
 /// Whether both implementations give the same lists and the same ending.
