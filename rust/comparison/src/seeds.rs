@@ -33,8 +33,8 @@ pub fn given() -> Option<u64> {
     Some(seed.parse().expect("COMPARISON_SEED is a number"))
 }
 
-/// Makes a random test with the fixed seed, and a part of it with the new one. Returns what the fixed
-/// seed gives: how much of what it is to reach is known. What a new one reaches is luck.
+/// Makes a random test with the fixed seed, and a part of it with the new one. Returns what it gives
+/// with the fixed seed, which is the same in each run; what a new one reaches is luck.
 pub fn with_seeds<R>(test: impl Fn(&mut Random, Share) -> R) -> R {
     static NEW: OnceLock<u64> = OnceLock::new();
     let new = *NEW.get_or_init(|| given().unwrap_or_else(|| RandomState::new().hash_one(FIXED)));
@@ -44,8 +44,8 @@ pub fn with_seeds<R>(test: impl Fn(&mut Random, Share) -> R) -> R {
     of_fixed
 }
 
-/// As [`with_seeds`], for a test that makes so many random inputs: it is passed the number of each. Prints
-/// and returns the counts of what they reach.
+/// As [`with_seeds`], for a test that makes so many random inputs and is passed the number of each.
+/// Prints and returns the counts of what they reach.
 pub fn count_reached<E: Copy + Debug + Ord>(
     inputs: usize,
     test: impl Fn(&mut Random, usize, &mut Reached<E>),
