@@ -69,6 +69,11 @@ impl Both {
         &self.outside
     }
 
+    /// The tables as the proved library is lent them.
+    pub fn proved_tables(&self) -> &tolbezun::Tables {
+        &self.proved
+    }
+
     /// Sets up the tables.
     #[track_caller]
     pub fn set_up(&mut self) -> Result<(), u8> {

@@ -5,20 +5,6 @@ pub mod scripts;
 pub mod tables;
 
 use outside::program::{op, Instruction, INSTRUCTION_BYTES, MAX_INSTRUCTIONS, REGISTERS, SETTINGS};
-use std::env;
-
-/// The seed, unless the environment variable `COMPARISON_SEED` gives another.
-const SEED: u64 = 1986;
-
-/// The seed of this run, which it prints.
-pub fn seed() -> u64 {
-    let seed = match env::var("COMPARISON_SEED") {
-        Ok(seed) => seed.parse().expect("COMPARISON_SEED is a number"),
-        Err(_) => SEED,
-    };
-    println!("COMPARISON_SEED={seed}");
-    seed
-}
 
 /// The SplitMix64 generator.
 pub struct Random(u64);

@@ -2,11 +2,12 @@
 //!
 //! The tests run random and chosen programs through both interpreters, make the calls of both on
 //! random and chosen tables and in random lists, check demand 3 after each drain of such a list, and
-//! run the program `cabinet`. The program `bench` times the calls as the history grows, late changes,
-//! the test of the tables' form and the interpreters:
+//! run the program `cabinet`. Random tests are made with a fixed seed and with a new one ([`seeds`]).
+//! The program `bench` times the calls as the history grows, late changes, the test of the tables'
+//! form and the interpreters:
 //!
 //! ```text
-//! cargo test --offline
+//! cargo test --profile checked --offline
 //! cargo run --release --offline --bin bench
 //! ```
 
@@ -16,6 +17,7 @@ pub mod both;
 pub mod generate;
 pub mod proved;
 pub mod reached;
+pub mod seeds;
 pub mod turns;
 
 /// Whether both implementations give the same lists and the same ending.

@@ -6,6 +6,7 @@ use comparison::generate::scripts::Source;
 use comparison::generate::tables as random_tables;
 use comparison::generate::{self, packages, Random};
 use comparison::reached::Reached;
+use comparison::seeds::count_reached;
 use comparison::turns::{self, TurnEvent};
 use outside::checker::{Totals, Turned};
 use outside::intake::Taken;
@@ -75,14 +76,10 @@ fn interfering_tables(random: &mut Random) -> (Source, Both) {
 
 #[test]
 fn turns_and_drains_leave_the_same_tables() {
-    let random = &mut Random::new(generate::seed());
-    let mut reached = Reached::default();
-    for _ in 0..TABLES {
+    let reached = count_reached(TABLES, |random, _, reached| {
         let (_, both) = interfering_tables(random);
-        drain(both, &mut reached);
-    }
-
-    reached.print();
+        drain(both, reached);
+    });
     for turned in [Turned::Ran, Turned::Stood, Turned::Cleared] {
         let event = Event::Turn(TurnEvent::Answered(turned));
         reached.assert_at_least(TABLES / 4, event);
@@ -116,15 +113,12 @@ fn turns_and_drains_leave_the_same_tables() {
 
 #[test]
 fn turns_and_drains_of_any_settings_and_values_leave_the_same_tables() {
-    let random = &mut Random::new(generate::seed());
-    let mut reached = Reached::default();
-    for _ in 0..ANY_VALUES {
+    let reached = count_reached(ANY_VALUES, |random, _, reached| {
         let n = random_tables::capacity(random).min(16);
         let held = random_tables::held_count(random, n);
         let tables = random_tables::in_form(random, n, held);
-        drain(Both::new(n, tables), &mut reached);
-    }
-    reached.print();
+        drain(Both::new(n, tables), reached);
+    });
     for turned in [Turned::Ran, Turned::Stood, Turned::Cleared] {
         let event = Event::Turn(TurnEvent::Answered(turned));
         reached.assert_at_least(ANY_VALUES / 20, event);
@@ -134,17 +128,14 @@ fn turns_and_drains_of_any_settings_and_values_leave_the_same_tables() {
 
 #[test]
 fn full_lists_are_replaced() {
-    let random = &mut Random::new(generate::seed());
-    let mut reached = Reached::default();
-    for index in 0..100 {
+    let reached = count_reached(100, |random, index, reached| {
         let mut tables = random_tables::in_form_with_full_lists(random, 4, 3 + index % 2);
         for place in 0..tables.held_count() {
             tables.status[place] = random.pick(&[1, 2]);
             tables.withdrawn[place] = random.pick(&[0, 0, 1]);
         }
-        drain(Both::new(4, tables), &mut reached);
-    }
-    reached.print();
+        drain(Both::new(4, tables), reached);
+    });
     for event in [
         TurnEvent::RanAgain,
         TurnEvent::ClearedWriter,
@@ -156,9 +147,7 @@ fn full_lists_are_replaced() {
 
 #[test]
 fn changes_and_packages_taken_in_and_withdrawals_leave_the_same_tables() {
-    let random = &mut Random::new(generate::seed());
-    let mut reached = Reached::default();
-    for _ in 0..TABLES {
+    let reached = count_reached(TABLES, |random, _, reached| {
         let (source, mut both) = interfering_tables(random);
         let held = both.tables().timestamps[..both.tables().held_count()].to_vec();
         let timestamp = match random.below(8) {
@@ -198,9 +187,8 @@ fn changes_and_packages_taken_in_and_withdrawals_leave_the_same_tables() {
             }
         }
         assert!(in_form(both.capacity(), both.tables()));
-    }
+    });
 
-    reached.print();
     for event in [
         Event::Taken(Taken::Done),
         Event::Taken(Taken::AlreadyHeld),

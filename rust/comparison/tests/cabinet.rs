@@ -2,7 +2,7 @@
 
 use comparison::generate::packages::{self, lay_out, Breach};
 use comparison::generate::scripts::Source;
-use comparison::generate::{self, Random};
+use comparison::seeds::with_seeds;
 use outside::cabinet::{listing, CAPACITY};
 use outside::package::{Entry, MAX_BYTES};
 use outside::program::{op, Instruction};
@@ -101,26 +101,28 @@ fn input_may_come_in_pieces() {
 
 #[test]
 fn random_packages_are_listed() {
-    let random = &mut Random::new(generate::seed());
-    let [mut turns, mut cleared, mut settings, mut full] = [0; 4];
-    for index in 0..PACKAGES {
-        let mut entries = packages::entries(random, &[]);
-        if index % 2 == 0 {
-            // Programs that read and write the same settings.
-            let source = Source::new(random, CAPACITY);
-            for entry in &mut entries {
-                if let Entry::Change { program, .. } = entry {
-                    *program = source.program(random);
+    let [turns, cleared, settings, full] = with_seeds(|random, share| {
+        let [mut turns, mut cleared, mut settings, mut full] = [0; 4];
+        for index in 0..share.of(PACKAGES) {
+            let mut entries = packages::entries(random, &[]);
+            if index % 2 == 0 {
+                // Programs that read and write the same settings.
+                let source = Source::new(random, CAPACITY);
+                for entry in &mut entries {
+                    if let Entry::Change { program, .. } = entry {
+                        *program = source.program(random);
+                    }
                 }
             }
+            let written = assert_listed(&lay_out(&entries));
+            let lines = |text: &str| written.lines().filter(|line| line.contains(text)).count();
+            turns += lines(" ran");
+            cleared += lines(" cleared");
+            settings += lines("setting ");
+            full += lines(" refused 9");
         }
-        let written = assert_listed(&lay_out(&entries));
-        let lines = |text: &str| written.lines().filter(|line| line.contains(text)).count();
-        turns += lines(" ran");
-        cleared += lines(" cleared");
-        settings += lines("setting ");
-        full += lines(" refused 9");
-    }
+        [turns, cleared, settings, full]
+    });
     println!("{turns} ran, {cleared} cleared, {settings} settings, {full} refused 9");
     for count in [turns, cleared, settings, full] {
         assert!(count >= PACKAGES / 4, "{count}");
@@ -130,23 +132,25 @@ fn random_packages_are_listed() {
 /// Packages with a breach of the layout, and with bytes changed, which may keep it.
 #[test]
 fn damaged_packages_are_listed() {
-    let random = &mut Random::new(generate::seed());
-    let [mut refused, mut kept] = [0; 2];
-    for index in 0..PACKAGES {
-        let mut package = lay_out(&packages::entries(random, &[]));
-        if index % 2 == 0 {
-            random.pick(&Breach::ALL).make(random, &mut package);
-        } else {
-            for _ in 0..=random.below(3) {
-                let place = random.below(package.len());
-                package[place] ^= 1 << random.below(8);
+    let [refused, kept] = with_seeds(|random, share| {
+        let [mut refused, mut kept] = [0; 2];
+        for index in 0..share.of(PACKAGES) {
+            let mut package = lay_out(&packages::entries(random, &[]));
+            if index % 2 == 0 {
+                random.pick(&Breach::ALL).make(random, &mut package);
+            } else {
+                for _ in 0..=random.below(3) {
+                    let place = random.below(package.len());
+                    package[place] ^= 1 << random.below(8);
+                }
+            }
+            match assert_listed(&package).as_str() {
+                "package refused 3\n" => refused += 1,
+                _ => kept += 1,
             }
         }
-        match assert_listed(&package).as_str() {
-            "package refused 3\n" => refused += 1,
-            _ => kept += 1,
-        }
-    }
+        [refused, kept]
+    });
     println!("{refused} refused, {kept} of another layout");
     for count in [refused, kept] {
         assert!(count >= PACKAGES / 8, "{count}");
@@ -155,13 +159,14 @@ fn damaged_packages_are_listed() {
 
 #[test]
 fn bad_packages_give_one_line() {
-    let random = &mut Random::new(generate::seed());
-    for breach in Breach::ALL {
-        let mut package = package_of_70_bytes();
-        let made = breach.make(random, &mut package);
-        assert_eq!(made, Some(()));
-        assert_eq!(assert_listed(&package), "package refused 3\n", "{breach:?}");
-    }
+    with_seeds(|random, _| {
+        for breach in Breach::ALL {
+            let mut package = package_of_70_bytes();
+            let made = breach.make(random, &mut package);
+            assert_eq!(made, Some(()));
+            assert_eq!(assert_listed(&package), "package refused 3\n", "{breach:?}");
+        }
+    });
     for length in [
         0,
         1,

@@ -2,8 +2,8 @@
 
 use comparison::both::Both;
 use comparison::generate::packages::{self, lay_out, Breach};
-use comparison::generate::{self, Random};
-use comparison::reached::Reached;
+use comparison::generate::Random;
+use comparison::seeds::{count_reached, with_seeds};
 use outside::package::{
     entries, Entry, ALREADY_HELD, ANSWERS, DONE, ENTRY_BYTES, MAX_BYTES, MAX_ENTRIES,
 };
@@ -54,9 +54,7 @@ fn capacity(random: &mut Random) -> usize {
 
 #[test]
 fn random_packages_have_the_same_answers() {
-    let random = &mut Random::new(generate::seed());
-    let mut reached = Reached::default();
-    for _ in 0..PACKAGES {
+    let reached = count_reached(PACKAGES, |random, _, reached| {
         let n = capacity(random);
         let mut both = Both::just_set_up(n);
         for _ in 0..3 {
@@ -92,9 +90,8 @@ fn random_packages_have_the_same_answers() {
                 assert!(both.drain().is_ok());
             }
         }
-    }
+    });
 
-    reached.print();
     for event in [
         Event::Empty,
         Event::Some,
@@ -112,25 +109,26 @@ fn random_packages_have_the_same_answers() {
     }
 }
 
-#[test]
-fn every_breach_of_layout_is_refused() {
-    let random = &mut Random::new(generate::seed());
-    let mut reached = Reached::default();
-    for breach in Breach::ALL {
-        let mut broken = 0;
-        while broken < BROKEN {
-            let mut both = Both::just_set_up(1 + random.below(16));
-            let entries = packages::entries(random, &[]);
-            let mut package = lay_out(&entries);
-            if breach.make(random, &mut package).is_some() {
-                let answer = take_in(random, &mut both, &package);
-                assert_eq!(answer, Err(3), "{breach:?} in {package:?}");
-                reached.count(Event::Broken(breach));
-                broken += 1;
-            }
+/// A random package with this breach.
+fn broken(random: &mut Random, breach: Breach) -> Vec<u8> {
+    loop {
+        let mut package = lay_out(&packages::entries(random, &[]));
+        if breach.make(random, &mut package).is_some() {
+            return package;
         }
     }
-    reached.print();
+}
+
+#[test]
+fn every_breach_of_layout_is_refused() {
+    let reached = count_reached(BROKEN * Breach::ALL.len(), |random, index, reached| {
+        let breach = Breach::ALL[index % Breach::ALL.len()];
+        let mut both = Both::just_set_up(1 + random.below(16));
+        let package = broken(random, breach);
+        let answer = take_in(random, &mut both, &package);
+        assert_eq!(answer, Err(3), "{breach:?} in {package:?}");
+        reached.count(Event::Broken(breach));
+    });
     for breach in Breach::ALL {
         reached.assert_at_least(BROKEN, Event::Broken(breach));
     }
@@ -139,9 +137,7 @@ fn every_breach_of_layout_is_refused() {
 /// Bytes that are most often 0, 1 or 2, so that some of them are packages.
 #[test]
 fn random_bytes_have_the_same_answers() {
-    let random = &mut Random::new(generate::seed());
-    let mut reached = Reached::default();
-    for _ in 0..RANDOM_BYTES {
+    let reached = count_reached(RANDOM_BYTES, |random, _, reached| {
         let length = random.pick(&[0, 1, 2, 3, 13, 14, 15, 22, 26, 34]);
         let most = random.pick(&[1, 2, 3, 256]);
         let mut bytes: Vec<u8> = (0..length).map(|_| random.below(most) as u8).collect();
@@ -153,8 +149,7 @@ fn random_bytes_have_the_same_answers() {
             Ok(_) => Event::RandomGood,
             Err(_) => Event::RandomBad,
         });
-    }
-    reached.print();
+    });
     reached.assert_at_least(RANDOM_BYTES / 20, Event::RandomGood);
     reached.assert_at_least(RANDOM_BYTES / 4, Event::RandomBad);
 }
@@ -173,7 +168,6 @@ fn sized(count: usize, instructions: usize) -> Vec<u8> {
 
 #[test]
 fn packages_at_the_bounds_have_the_same_answers() {
-    let random = &mut Random::new(generate::seed());
     // 2 + 12 × 245 + 8 × 7,824 = 65,534.
     let longest = sized(245, 7_824);
     assert_eq!(longest.len(), MAX_BYTES - 1);
@@ -194,23 +188,25 @@ fn packages_at_the_bounds_have_the_same_answers() {
         packages.push(good);
     }
     packages.extend([vec![], vec![0], vec![1], vec![0, 0], vec![0, 0, 0]]);
-    let mut good = 0;
-    for package in packages {
-        let expected = entries(&package).map(|entries| entries.len());
-        good += usize::from(expected.is_some());
-        let mut both = Both::just_set_up(MAX_ENTRIES);
-        match take_in(random, &mut both, &package) {
-            Ok(_) => assert_eq!(expected, Some(both.tables().held_count())),
-            Err(refusal) => assert_eq!((expected, refusal), (None, 3)),
+    let good = with_seeds(|random, _| {
+        let mut good = 0;
+        for package in &packages {
+            let expected = entries(package).map(|entries| entries.len());
+            good += usize::from(expected.is_some());
+            let mut both = Both::just_set_up(MAX_ENTRIES);
+            match take_in(random, &mut both, package) {
+                Ok(_) => assert_eq!(expected, Some(both.tables().held_count())),
+                Err(refusal) => assert_eq!((expected, refusal), (None, 3)),
+            }
         }
-    }
+        good
+    });
     assert_eq!(good, 1 + 7 + 1);
 }
 
 /// The byte at each place of a package set to each of these.
 #[test]
 fn every_byte_changed_has_the_same_answers() {
-    let random = &mut Random::new(generate::seed());
     let entries = [
         Entry::Change {
             timestamp: 20,
@@ -227,13 +223,15 @@ fn every_byte_changed_has_the_same_answers() {
         },
     ];
     let package = lay_out(&entries);
-    for index in 0..package.len() {
-        for byte in [0, 1, 2, 3, 4, 31, 32, 33, 64, 128, 254, 255] {
-            let mut changed = package.clone();
-            changed[index] = byte;
-            let mut both = Both::new(4, Tables::new(4));
-            let answer = take_in(random, &mut both, &changed);
-            assert!(matches!(answer, Ok(_) | Err(3)), "{answer:?}");
+    with_seeds(|random, _| {
+        for index in 0..package.len() {
+            for byte in [0, 1, 2, 3, 4, 31, 32, 33, 64, 128, 254, 255] {
+                let mut changed = package.clone();
+                changed[index] = byte;
+                let mut both = Both::new(4, Tables::new(4));
+                let answer = take_in(random, &mut both, &changed);
+                assert!(matches!(answer, Ok(_) | Err(3)), "{answer:?}");
+            }
         }
-    }
+    });
 }

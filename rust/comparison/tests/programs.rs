@@ -1,16 +1,18 @@
 //! The proved interpreter against the outside implementation, on programs.
 
 use comparison::reached::Reached;
+use comparison::seeds::count_reached;
 use comparison::{agree, generate, proved};
 use generate::{Random, Style, EXTREMES};
 use outside::program::{
     self, op, Fault, Instruction, Malformed, Outcome, INSTRUCTION_BYTES, MAX_INSTRUCTIONS, SETTINGS,
 };
 
-const PROGRAMS: usize = 300_000;
-
 /// How many programs are run on the same values.
 const PROGRAMS_TO_VALUES: usize = 64;
+
+/// How many random programs are compared.
+const PROGRAMS: usize = 4_700 * PROGRAMS_TO_VALUES;
 
 /// The refusal of a program by both, or 0.
 #[track_caller]
@@ -145,7 +147,6 @@ fn count_run(reached: &mut Reached<Event>, program: &[u8], runs: &Runs) {
 
 #[test]
 fn random_programs_have_the_same_form_and_the_same_outcome() {
-    let random = &mut Random::new(generate::seed());
     let styles = [
         Style::MANY_SETTINGS,
         Style::MANY_SETTINGS,
@@ -160,42 +161,39 @@ fn random_programs_have_the_same_form_and_the_same_outcome() {
         Style::WRITES,
         Style::ARITHMETIC,
     ];
-    let mut values = generate::values(random);
-    let mut runs = Runs::new();
-    let mut reached = Reached::default();
-    for index in 0..PROGRAMS {
-        if index % PROGRAMS_TO_VALUES == 0 {
-            values = generate::values(random);
-        }
-        let style = &styles[random.below(styles.len())];
-        let count = match random.below(4) {
-            0 => MAX_INSTRUCTIONS,
-            1 => random.below(5),
-            _ => random.below(MAX_INSTRUCTIONS + 1),
-        };
-        let mut program = generate::program(random, style, count);
-        if random.below(2) == 0 {
-            generate::reveal_registers(random, &mut program);
-        }
-        let damaged = random.below(4) == 0;
-        if damaged {
-            generate::damage(random, &mut program);
-        }
+    let reached = count_reached(PROGRAMS / PROGRAMS_TO_VALUES, |random, _, reached| {
+        let values = generate::values(random);
+        let mut runs = Runs::new();
+        for _ in 0..PROGRAMS_TO_VALUES {
+            let style = &styles[random.below(styles.len())];
+            let count = match random.below(4) {
+                0 => MAX_INSTRUCTIONS,
+                1 => random.below(5),
+                _ => random.below(MAX_INSTRUCTIONS + 1),
+            };
+            let mut program = generate::program(random, style, count);
+            if random.below(2) == 0 {
+                generate::reveal_registers(random, &mut program);
+            }
+            let damaged = random.below(4) == 0;
+            if damaged {
+                generate::damage(random, &mut program);
+            }
 
-        let refusal = compare_form(&program);
-        assert!(damaged || refusal == 0, "{:#?}", listing(&program));
-        reached.count(match refusal {
-            0 if damaged => Event::AcceptedThoughDamaged,
-            0 => Event::Accepted,
-            refusal => Event::Refused(refusal),
-        });
-        if refusal == 0 {
-            runs.compare(&program, &values);
-            count_run(&mut reached, &program, &runs);
+            let refusal = compare_form(&program);
+            assert!(damaged || refusal == 0, "{:#?}", listing(&program));
+            reached.count(match refusal {
+                0 if damaged => Event::AcceptedThoughDamaged,
+                0 => Event::Accepted,
+                refusal => Event::Refused(refusal),
+            });
+            if refusal == 0 {
+                runs.compare(&program, &values);
+                count_run(reached, &program, &runs);
+            }
         }
-    }
+    });
 
-    reached.print();
     reached.assert_at_least(PROGRAMS / 2, Event::Accepted);
     reached.assert_at_least(PROGRAMS / 10, Event::Completed);
     reached.assert_at_least(PROGRAMS / 100, Event::AcceptedThoughDamaged);

@@ -2,16 +2,18 @@
 //! implementation, and demand 3.
 
 use comparison::both::Both;
+use comparison::generate::packages::{self, lay_out};
 use comparison::generate::scripts::{Call, Source};
-use comparison::generate::{self, Random};
+use comparison::generate::Random;
 use comparison::proved::calls as proved;
 use comparison::reached::Reached;
+use comparison::seeds::{count_reached, with_seeds};
 use comparison::turns::{self, TurnEvent};
 use outside::book::{self, LoggedTurn};
 use outside::calls::plain_run;
 use outside::checker::Turned;
 use outside::intake::Taken;
-use outside::package::{entries, Entry, ALREADY_HELD, DONE};
+use outside::package::{entries, Entry, ALREADY_HELD, ANSWERS, DONE};
 use outside::program::SETTINGS;
 use outside::tables::{Status, Tables, MAX_CAPACITY};
 
@@ -139,26 +141,39 @@ impl Script {
         }
     }
 
-    /// Drains, compares the drain with single turns, and checks demand 3.
+    /// Drains, compares the drain with single turns on both, and checks demand 3.
     fn drain(&mut self, reached: &mut Reached<Event>) {
         let mut single = self.both.clone();
         let held = single.tables().held_count();
         let turns = book::turns_of_drain(held, || logged_turn(&mut single, reached));
+        self.drain_like(turns, single.tables(), reached);
+    }
+
+    /// As [`Self::drain`], but with the single turns on the proved library alone, which takes less
+    /// time.
+    fn drain_as_alone(&mut self, reached: &mut Reached<Event>) {
+        let n = self.both.capacity();
+        let mut single = self.both.proved_tables().clone();
+        let held = self.both.tables().held_count();
+        let turns = book::turns_of_drain(held, || turn_alone(n, &mut single));
+        self.drain_like(turns, &proved::take_back(&single), reached);
+    }
+
+    /// Drains, compares the drain with these turns, which were made singly and left these tables,
+    /// and checks demand 3.
+    fn drain_like(&mut self, turns: Vec<LoggedTurn>, left: &Tables, reached: &mut Reached<Event>) {
         reached.count_if(turns.is_empty(), Event::DrainOfNone);
         reached.count_if(turns.len() > 1, Event::DrainOfSeveral);
-        let valid = |logged: &LoggedTurn| {
+        for logged in &turns {
             let tables = self.both.tables();
             let place = tables.place_of(logged.turn.timestamp).expect("it is held");
-            tables.status(place) == Status::Valid
-        };
-        reached.count_if(turns.iter().any(valid), Event::DrainMarks);
+            let valid = tables.status(place) == Status::Valid;
+            reached.count_if(valid, Event::DrainMarks);
+        }
 
         let totals = self.both.drain().expect("the tables are in form");
         let tables = self.both.tables();
-        assert!(
-            tables == single.tables(),
-            "a drain's turns are single turns"
-        );
+        assert!(tables == left, "a drain's turns are single turns");
         self.calls.push(book::Call::Drain(Some((totals, turns))));
         let checked = book::check(&self.calls, tables);
         assert!(checked.is_ok(), "{checked:?} of {:?}", self.calls);
@@ -235,23 +250,20 @@ fn calls_in_list(random: &mut Random, n: usize) -> usize {
 
 #[test]
 fn lists_of_calls_have_the_same_answers_and_tables_and_meet_demand_3() {
-    let random = &mut Random::new(generate::seed());
-    let mut reached = Reached::default();
-    for index in 0..SCRIPTS {
+    let reached = count_reached(SCRIPTS, |random, index, reached| {
         let n = 1 + index % CAPACITIES;
         let mut script = Script::new(n);
         if random.below(8) == 0 {
             let count = calls_in_list(random, n);
             let source = &mut Source::new(random, n);
-            script.make_all(random, source, count, &mut reached);
-            script.set_up(&mut reached);
+            script.make_all(random, source, count, reached);
+            script.set_up(reached);
         }
         let count = calls_in_list(random, n);
         let source = &mut Source::new(random, n);
-        script.make_all(random, source, count, &mut reached);
-    }
+        script.make_all(random, source, count, reached);
+    });
 
-    reached.print();
     for event in [
         Event::Taken,
         Event::Package,
@@ -354,94 +366,108 @@ fn make_alone(n: usize, tables: &mut tolbezun::Tables, call: Call) -> book::Call
 }
 
 fn turn_alone(n: usize, tables: &mut tolbezun::Tables) -> Option<LoggedTurn> {
-    let turn = proved::turn(n, tables).expect("the tables are in form")?;
-    Some(LoggedTurn::new(turn, &proved::take_back(tables)))
+    proved::logged_turn(n, tables).expect("the tables are in form")
 }
 
 /// Demand 3 without the outside implementation's Checker.
 #[test]
 fn lists_of_calls_on_the_proved_library_alone_meet_demand_3() {
-    let random = &mut Random::new(generate::seed() + 1);
-    let mut drained = 0;
-    for index in 0..SCRIPTS_ALONE {
-        let n = 1 + index % CAPACITIES;
-        let mut source = Source::new(random, n);
-        let mut tables = tolbezun::Tables::new(n);
-        assert_eq!(proved::set_up(n, &mut tables), Ok(()));
-        let mut calls = Vec::new();
-        let last = calls_in_list(random, n);
-        for index in 0..=last {
-            let call = match index {
-                _ if index == last => Call::Drain,
-                _ => source.call(random, &proved::take_back(&tables)),
-            };
-            calls.push(make_alone(n, &mut tables, call));
-            if let Some(book::Call::Drain(_)) = calls.last() {
-                let checked = book::check(&calls, &proved::take_back(&tables));
-                assert!(checked.is_ok(), "{checked:?} of {calls:?}");
-                drained += 1;
+    let drained = with_seeds(|random, share| {
+        let mut drained = 0;
+        for index in 0..share.of(SCRIPTS_ALONE) {
+            let n = 1 + index % CAPACITIES;
+            let mut source = Source::new(random, n);
+            let mut tables = tolbezun::Tables::new(n);
+            assert_eq!(proved::set_up(n, &mut tables), Ok(()));
+            let mut calls = Vec::new();
+            let last = calls_in_list(random, n);
+            for index in 0..=last {
+                let call = match index {
+                    _ if index == last => Call::Drain,
+                    _ => source.call(random, &proved::take_back(&tables)),
+                };
+                calls.push(make_alone(n, &mut tables, call));
+                if let Some(book::Call::Drain(_)) = calls.last() {
+                    let checked = book::check(&calls, &proved::take_back(&tables));
+                    assert!(checked.is_ok(), "{checked:?} of {calls:?}");
+                    drained += 1;
+                }
             }
         }
-    }
+        drained
+    });
     println!("demand 3 checked {drained} times");
     assert!(drained > 4 * SCRIPTS_ALONE, "{drained}");
 }
 
-/// Full tables of the highest capacity, and calls on them.
+/// Tables of the highest capacity filled by packages of changes, by falling timestamp, with withdrawals
+/// among them. Every third change is late: it comes after a drain.
 #[test]
-fn full_tables_of_capacity_4096_have_the_same_answers_and_tables() {
-    let random = &mut Random::new(generate::seed());
-    let mut both = Both::just_set_up(MAX_CAPACITY);
-    let source = Source::new(random, MAX_CAPACITY);
-    // By falling timestamp: every third arrives last, after a drain.
-    let mut timestamps: Vec<u64> = (1..=MAX_CAPACITY as u64).rev().collect();
-    timestamps.sort_by_key(|timestamp| timestamp % 3 == 0);
-    let (first, last) = timestamps.split_at(MAX_CAPACITY - MAX_CAPACITY / 3);
-    for timestamps in [first, last] {
-        for timestamps in timestamps.chunks(256) {
-            let change = |&timestamp| Entry::Change {
-                timestamp,
-                program: source.program(random),
-            };
-            let entries: Vec<Entry> = timestamps.iter().map(change).collect();
-            let package = generate::packages::lay_out(&entries);
-            let mut answers = vec![99; 512];
-            assert_eq!(both.take_in_package(&package, &mut answers), Ok(()));
-            let mut answers = answers[..timestamps.len()].iter();
-            assert!(answers.all(|&answer| answer == DONE));
+fn full_tables_of_capacity_4096_have_the_same_answers_and_tables_and_meet_demand_3() {
+    let reached = with_seeds(|random, share| {
+        let n = share.of(MAX_CAPACITY);
+        let mut reached = Reached::default();
+        let mut script = Script::new(n);
+        let source = Source::new(random, n);
+        let mut timestamps: Vec<u64> = (1..=n as u64).rev().collect();
+        timestamps.sort_by_key(|timestamp| timestamp % 3 == 0);
+        let (first, late) = timestamps.split_at(n - n / 3);
+        for (timestamps, full) in [(first, false), (late, true)] {
+            for timestamps in timestamps.chunks(256) {
+                let mut entries = Vec::new();
+                for &timestamp in timestamps {
+                    let program = source.program(random);
+                    entries.push(Entry::Change { timestamp, program });
+                    if random.below(16) == 0 {
+                        let timestamp = 1 + random.below(n) as u64;
+                        entries.push(Entry::Withdrawal { timestamp });
+                    }
+                }
+                let package = lay_out(&entries);
+                let answers = packages::answers(random, ANSWERS);
+                script.make(Call::TakeInPackage { package, answers }, &mut reached);
+            }
+            if full {
+                let (timestamp, program) = (n as u64 + 1, Vec::new());
+                script.make(Call::TakeIn { timestamp, program }, &mut reached);
+            }
+            for _ in 0..8 {
+                let timestamp = random.pick(first);
+                script.make(Call::Withdraw { timestamp }, &mut reached);
+                script.make(Call::Turn, &mut reached);
+                script.both.ask_all(timestamp, source.setting(random));
+            }
+            script.drain_as_alone(&mut reached);
         }
-        let totals = both.drain().expect("the tables are in form");
-        println!("{totals:?}");
-        assert!(totals.ran as usize >= timestamps.len(), "{totals:?}");
-    }
-    assert_eq!(both.take_in(MAX_CAPACITY as u64 + 1, &[]), Err(9));
-    for &timestamp in &timestamps[..6] {
-        assert_eq!(both.withdraw(timestamp), Ok(()));
-        assert!(both.turn().is_ok());
-        both.ask_all(timestamp, source.setting(random));
-    }
-    assert!(both.drain().is_ok());
-    let mut plain = [0; SETTINGS];
-    assert_eq!(plain_run(MAX_CAPACITY, both.tables(), &mut plain), Ok(()));
-    assert!(both.tables().view == plain);
+        assert_eq!(script.both.tables().held_count(), n);
+        reached
+    });
+
+    reached.print();
+    reached.assert_at_least(MAX_CAPACITY, Event::ChangeAnswered(DONE));
+    reached.assert_at_least(100, Event::WithdrawalAnswered(DONE));
+    reached.assert_at_least(1, Event::TakeInRefused(9));
+    reached.assert_at_least(4, Event::Withdrawn(Status::New));
+    reached.assert_at_least(4, Event::Withdrawn(Status::Valid));
+    reached.assert_at_least(8, Event::Turn(TurnEvent::RanFirst));
+    reached.assert_at_least(500, Event::DrainMarks);
+    reached.assert_at_least(2, Event::Drained);
 }
 
 /// Lists of calls at the highest capacity, with so many changes taken in first.
 #[test]
 fn lists_of_calls_at_capacity_4096_have_the_same_answers_and_tables_and_meet_demand_3() {
-    let random = &mut Random::new(generate::seed());
-    let mut reached = Reached::default();
-    for held in [0, 1, 100, 250, 500] {
+    const HELD: [usize; 5] = [100, 0, 1, 250, 500];
+    let reached = count_reached(HELD.len(), |random, index, reached| {
         let source = &mut Source::new(random, MAX_CAPACITY);
         let mut script = Script::new(MAX_CAPACITY);
-        for _ in 0..held {
+        for _ in 0..HELD[index] {
             let (timestamp, program) = source.new_change(random).expect("there are enough");
-            script.make(Call::TakeIn { timestamp, program }, &mut reached);
+            script.make(Call::TakeIn { timestamp, program }, reached);
         }
-        script.make_all(random, source, 60, &mut reached);
-    }
-    reached.print();
-    reached.assert_at_least(5, Event::Drained);
+        script.make_all(random, source, 60, reached);
+    });
+    reached.assert_at_least(HELD.len(), Event::Drained);
     reached.assert_at_least(400, Event::Turn(TurnEvent::RanFirst));
     reached.assert_at_least(5, Event::Turn(TurnEvent::RanAgain));
 }

@@ -3,8 +3,9 @@
 
 use comparison::both::{Answer, Both, Query};
 use comparison::generate::tables::{self as random_tables, Breach, Table};
-use comparison::generate::{self, packages, Random};
+use comparison::generate::{packages, Random};
 use comparison::reached::Reached;
+use comparison::seeds::{count_reached, with_seeds};
 use outside::package::ANSWERS;
 use outside::program::{self, SETTINGS};
 use outside::tables::{in_form, Status, Tables, INFINITY, LIST_ENTRIES, MAX_CAPACITY};
@@ -203,9 +204,7 @@ fn count_plain_run(reached: &mut Reached<Event>, tables: &Tables) {
 
 #[test]
 fn random_tables_have_the_same_answers() {
-    let random = &mut Random::new(generate::seed());
-    let mut reached = Reached::default();
-    for _ in 0..TABLES {
+    let reached = count_reached(TABLES, |random, _, reached| {
         let n = random_tables::capacity(random);
         let held = random_tables::held_count(random, n);
         let mut tables = random_tables::in_form(random, n, held);
@@ -228,15 +227,14 @@ fn random_tables_have_the_same_answers() {
         for _ in 0..QUERIES {
             let query = query(random, &both);
             let answer = both.ask(query);
-            count_answer(&mut reached, &both, query, &answer);
+            count_answer(reached, &both, query, &answer);
         }
         reached.count(match set_up(&both) {
             Ok(()) => Event::SetUp,
             Err(refusal) => Event::SetUpRefused(refusal),
         });
-    }
+    });
 
-    reached.print();
     reached.assert_at_least(TABLES / 2, Event::InForm);
     reached.assert_at_least(TABLES / 2, Event::CurrentValue);
     reached.assert_at_least(TABLES / 2, Event::PlainRun);
@@ -294,19 +292,21 @@ fn broken(random: &mut Random, breach: Breach) -> Both {
     }
 }
 
+/// Every call refuses these tables, 2, but for set up, which tests lengths alone.
+#[track_caller]
+fn assert_not_in_form(random: &mut Random, mut both: Both) {
+    both.assert_all_refused(random, 2);
+    assert_eq!(both.set_up(), Ok(()));
+}
+
 #[test]
 fn every_breach_of_form_is_refused() {
-    let random = &mut Random::new(generate::seed());
-    let mut reached = Reached::default();
-    for breach in Breach::ALL {
-        for _ in 0..BROKEN {
-            let mut both = broken(random, breach);
-            both.assert_all_refused(random, 2);
-            assert_eq!(set_up(&both), Ok(()));
-            reached.count(Event::Broken(breach));
-        }
-    }
-    reached.print();
+    let reached = count_reached(BROKEN * Breach::ALL.len(), |random, index, reached| {
+        let breach = Breach::ALL[index % Breach::ALL.len()];
+        let both = broken(random, breach);
+        assert_not_in_form(random, both);
+        reached.count(Event::Broken(breach));
+    });
     for breach in Breach::ALL {
         reached.assert_at_least(BROKEN, Event::Broken(breach));
     }
@@ -314,205 +314,211 @@ fn every_breach_of_form_is_refused() {
 
 #[test]
 fn every_breach_of_form_is_refused_at_capacity_4096() {
-    let random = &mut Random::new(generate::seed());
-    let few = random_tables::in_form(random, MAX_CAPACITY, 300);
-    let all = random_tables::in_form(random, MAX_CAPACITY, MAX_CAPACITY);
-    // Full tables have no unused slots and no room for a held count too high.
-    for (tables, breaches) in [(few, Breach::ALL.len()), (all, Breach::ALL.len() - 13)] {
-        let mut made = 0;
+    let reached = count_reached(2, |random, index, reached| {
+        let held = [300, MAX_CAPACITY][index];
+        let in_form = random_tables::in_form(random, MAX_CAPACITY, held);
         for breach in Breach::ALL {
-            let mut tables = tables.clone();
+            let mut tables = in_form.clone();
             if breach.make(random, &mut tables).is_some() {
-                let both = Both::new(MAX_CAPACITY, tables);
-                let query = random.pick(&[
-                    Query::CurrentValue(0),
-                    Query::ValueAsOf(INFINITY, 0),
-                    Query::Standing(1),
-                    Query::PlainRun(SETTINGS),
-                ]);
-                assert_eq!(both.ask(query), Err(2), "{breach:?}, {query:?}");
-                made += 1;
+                assert_not_in_form(random, Both::new(MAX_CAPACITY, tables));
+                reached.count(Event::Broken(breach));
             }
         }
-        assert_eq!(made, breaches);
+    });
+    for breach in Breach::ALL {
+        // Full tables have no unused slots and no room for a held count too high.
+        let least = match breach {
+            Breach::HeldTooMany | Breach::Unused(_) => 1,
+            _ => 2,
+        };
+        reached.assert_at_least(least, Event::Broken(breach));
     }
 }
 
 #[test]
 fn tables_of_capacity_4096_have_the_same_answers() {
-    let random = &mut Random::new(generate::seed());
-    for (held, full_lists) in [
-        (0, false),
-        (1, false),
-        (700, true),
-        (MAX_CAPACITY - 1, false),
-        (MAX_CAPACITY, false),
-        (MAX_CAPACITY, true),
-    ] {
-        let tables = match full_lists {
-            true => random_tables::in_form_with_full_lists(random, MAX_CAPACITY, held),
-            false => random_tables::in_form(random, MAX_CAPACITY, held),
-        };
-        let both = Both::new(MAX_CAPACITY, tables);
-        let last = both.tables().timestamps[held.saturating_sub(1)].max(1);
-        let target = usize::from(both.tables().targets[LIST_ENTRIES * (held / 2)]);
-        for query in [
-            Query::CurrentValue(SETTINGS - 1),
-            Query::ValueAsOf(INFINITY, target),
-            Query::ValueAsOf(last, target),
-            Query::PlainRun(SETTINGS),
+    with_seeds(|random, _| {
+        for (held, full_lists) in [
+            (0, false),
+            (1, false),
+            (700, true),
+            (MAX_CAPACITY - 1, false),
+            (MAX_CAPACITY, false),
+            (MAX_CAPACITY, true),
         ] {
-            let answer = both.ask(query);
-            assert!(answer.is_ok(), "{answer:?} to {query:?}");
+            let tables = match full_lists {
+                true => random_tables::in_form_with_full_lists(random, MAX_CAPACITY, held),
+                false => random_tables::in_form(random, MAX_CAPACITY, held),
+            };
+            let both = Both::new(MAX_CAPACITY, tables);
+            let last = both.tables().timestamps[held.saturating_sub(1)].max(1);
+            let target = usize::from(both.tables().targets[LIST_ENTRIES * (held / 2)]);
+            for query in [
+                Query::CurrentValue(SETTINGS - 1),
+                Query::ValueAsOf(INFINITY, target),
+                Query::ValueAsOf(last, target),
+                Query::PlainRun(SETTINGS),
+            ] {
+                let answer = both.ask(query);
+                assert!(answer.is_ok(), "{answer:?} to {query:?}");
+            }
+            let answer = both.ask(Query::Standing(last));
+            assert_eq!(answer.is_ok(), held > 0, "{answer:?}");
+            assert_eq!(set_up(&both), Ok(()));
         }
-        let answer = both.ask(Query::Standing(last));
-        assert_eq!(answer.is_ok(), held > 0, "{answer:?}");
-        assert_eq!(set_up(&both), Ok(()));
-    }
+    });
 }
 
 /// The timestamps and the settings at the ends, all held timestamps, and those next to them.
 #[test]
 fn arguments_at_the_bounds_have_the_same_answers() {
-    let random = &mut Random::new(generate::seed());
-    let mut asked = 0;
-    for index in 0..60 {
-        let n = 1 + random.below(6);
-        let tables = random_tables::in_form(random, n, index % (n + 1));
-        let both = Both::new(n, tables);
-        let mut timestamps = vec![0, 1, 2, 1 << 32, 1 << 63, INFINITY - 1, INFINITY];
-        for &timestamp in &both.tables().timestamps[..held_count(both.tables())] {
-            timestamps.extend([timestamp - 1, timestamp, timestamp + 1]);
-        }
-        let mut settings = vec![0, 1, SETTINGS - 1, SETTINGS, 65_535, 65_536, usize::MAX];
-        for place in 0..held_count(both.tables()) {
-            let writes = both.tables().write_list(place).take(2);
-            settings.extend(writes.map(|write| usize::from(write.setting)));
-        }
-        for &setting in &settings {
-            let refusal = (setting >= SETTINGS).then_some(5);
-            let answer = both.ask(Query::CurrentValue(setting));
-            assert_eq!(answer.err(), refusal);
-            for &timestamp in &timestamps {
-                let refusal = if timestamp == 0 { Some(4) } else { refusal };
-                let answer = both.ask(Query::ValueAsOf(timestamp, setting));
+    let asked = with_seeds(|random, share| {
+        let mut asked = 0;
+        for index in 0..share.of(60) {
+            let n = 1 + random.below(6);
+            let tables = random_tables::in_form(random, n, index % (n + 1));
+            let both = Both::new(n, tables);
+            let mut timestamps = vec![0, 1, 2, 1 << 32, 1 << 63, INFINITY - 1, INFINITY];
+            for &timestamp in &both.tables().timestamps[..held_count(both.tables())] {
+                timestamps.extend([timestamp - 1, timestamp, timestamp + 1]);
+            }
+            let mut settings = vec![0, 1, SETTINGS - 1, SETTINGS, 65_535, 65_536, usize::MAX];
+            for place in 0..held_count(both.tables()) {
+                let writes = both.tables().write_list(place).take(2);
+                settings.extend(writes.map(|write| usize::from(write.setting)));
+            }
+            for &setting in &settings {
+                let refusal = (setting >= SETTINGS).then_some(5);
+                let answer = both.ask(Query::CurrentValue(setting));
                 assert_eq!(answer.err(), refusal);
-                asked += 1;
+                for &timestamp in &timestamps {
+                    let refusal = if timestamp == 0 { Some(4) } else { refusal };
+                    let answer = both.ask(Query::ValueAsOf(timestamp, setting));
+                    assert_eq!(answer.err(), refusal);
+                    asked += 1;
+                }
+            }
+            for &timestamp in &timestamps {
+                let refusal = match timestamp {
+                    0 | INFINITY => Some(4),
+                    _ if both.tables().timestamps.contains(&timestamp) => None,
+                    _ => Some(10),
+                };
+                assert_eq!(both.ask(Query::Standing(timestamp)).err(), refusal);
             }
         }
-        for &timestamp in &timestamps {
-            let refusal = match timestamp {
-                0 | INFINITY => Some(4),
-                _ if both.tables().timestamps.contains(&timestamp) => None,
-                _ => Some(10),
-            };
-            assert_eq!(both.ask(Query::Standing(timestamp)).err(), refusal);
-        }
-    }
+        asked
+    });
     println!("asked {asked} times for a value as of a timestamp");
     assert!(asked > 3_000, "{asked}");
 }
 
 #[test]
 fn every_setting_has_the_same_value() {
-    let random = &mut Random::new(generate::seed());
-    for tables in [
-        random_tables::in_form(random, 5, 5),
-        random_tables::in_form_with_full_lists(random, 5, 4),
-    ] {
-        let both = Both::new(5, tables);
-        let last = both.tables().timestamps[usize::from(both.tables().order[3])];
-        for setting in 0..SETTINGS {
-            let value = Answer::Value(both.tables().view[setting]);
-            assert_eq!(both.ask(Query::CurrentValue(setting)), Ok(value));
-            for timestamp in [last, INFINITY] {
-                assert!(both.ask(Query::ValueAsOf(timestamp, setting)).is_ok());
+    with_seeds(|random, _| {
+        for tables in [
+            random_tables::in_form(random, 5, 5),
+            random_tables::in_form_with_full_lists(random, 5, 4),
+        ] {
+            let both = Both::new(5, tables);
+            let last = both.tables().timestamps[usize::from(both.tables().order[3])];
+            for setting in 0..SETTINGS {
+                let value = Answer::Value(both.tables().view[setting]);
+                assert_eq!(both.ask(Query::CurrentValue(setting)), Ok(value));
+                for timestamp in [last, INFINITY] {
+                    assert!(both.ask(Query::ValueAsOf(timestamp, setting)).is_ok());
+                }
             }
         }
-    }
+    });
 }
 
 /// Each table alone shorter, longer and empty, with contents that are in form and with random ones.
 #[test]
 fn every_wrong_length_is_refused() {
-    let random = &mut Random::new(generate::seed());
-    let mut refused = 0;
-    for n in [1, 2, 5, 64, MAX_CAPACITY] {
-        let in_form = random_tables::in_form(random, n, n.min(64) / 2);
-        let mut filled = in_form.clone();
-        random_tables::fill(random, &mut filled);
-        for mut tables in [in_form, filled] {
-            for table in Table::ALL {
-                let right = table.length(&mut tables);
-                for length in [0, right - 1, right + 1, 2 * right] {
-                    let mut tables = tables.clone();
-                    table.resize(&mut tables, length);
-                    let mut both = Both::new(n, tables);
-                    both.assert_all_refused(random, 1);
-                    assert_eq!(set_up(&both), Err(1), "{table:?} of {length}");
-                    refused += 1;
+    const CAPACITIES: [usize; 5] = [1, 2, 5, 64, MAX_CAPACITY];
+    let refused = with_seeds(|random, share| {
+        let mut refused = 0;
+        for &n in &CAPACITIES[..share.of(CAPACITIES.len())] {
+            let in_form = random_tables::in_form(random, n, n.min(64) / 2);
+            let mut filled = in_form.clone();
+            random_tables::fill(random, &mut filled);
+            for mut tables in [in_form, filled] {
+                for table in Table::ALL {
+                    let right = table.length(&mut tables);
+                    for length in [0, right - 1, right + 1, 2 * right] {
+                        let mut tables = tables.clone();
+                        table.resize(&mut tables, length);
+                        let mut both = Both::new(n, tables);
+                        both.assert_all_refused(random, 1);
+                        assert_eq!(set_up(&both), Err(1), "{table:?} of {length}");
+                        refused += 1;
+                    }
+                }
+                let mut both = Both::new(n, tables);
+                for length in [0, 1, SETTINGS - 1, SETTINGS + 1, 2 * SETTINGS] {
+                    assert_eq!(both.ask(Query::PlainRun(length)), Err(1));
+                }
+                for length in [0, 1, ANSWERS - 1, ANSWERS + 1, SETTINGS] {
+                    let mut answers = packages::answers(random, length);
+                    let taken = both.take_in_package(&[0, 0], &mut answers);
+                    assert_eq!(taken, Err(1));
                 }
             }
-            let mut both = Both::new(n, tables);
-            for length in [0, 1, SETTINGS - 1, SETTINGS + 1, 2 * SETTINGS] {
-                assert_eq!(both.ask(Query::PlainRun(length)), Err(1));
-            }
-            for length in [0, 1, ANSWERS - 1, ANSWERS + 1, SETTINGS] {
-                let mut answers = packages::answers(random, length);
-                let taken = both.take_in_package(&[0, 0], &mut answers);
-                assert_eq!(taken, Err(1));
-            }
         }
-    }
+        refused
+    });
     println!("refused {refused} lengths");
-    assert_eq!(refused, 5 * 2 * 14 * 4);
+    assert_eq!(refused, CAPACITIES.len() * 2 * Table::ALL.len() * 4);
 }
 
 #[test]
 fn capacities_other_than_1_to_4096_are_refused() {
-    let random = &mut Random::new(generate::seed());
-    for n in [0, MAX_CAPACITY + 1, 65_536] {
-        for held in [0, 1] {
-            let mut tables = Tables::new(n);
-            tables.held[0] = held;
-            let mut both = Both::new(n, tables);
-            both.assert_all_refused(random, 1);
-            assert_eq!(set_up(&both), Err(1));
+    with_seeds(|random, share| {
+        for &n in &[0, MAX_CAPACITY + 1, 65_536][..share.of(3)] {
+            for held in [0, 1] {
+                let mut tables = Tables::new(n);
+                tables.held[0] = held;
+                let mut both = Both::new(n, tables);
+                both.assert_all_refused(random, 1);
+                assert_eq!(set_up(&both), Err(1));
+            }
         }
-    }
-    for n in [1, MAX_CAPACITY] {
-        let both = Both::new(n, Tables::new(n));
-        assert_eq!(both.ask(Query::CurrentValue(0)), Ok(Answer::Value(0)));
-        assert_eq!(set_up(&both), Ok(()));
-        // 256 × N and 32 × N may wrap to the right length.
-        for other in [
-            0,
-            n - 1,
-            n + 1,
-            65_536 + n,
-            1 << 32 | n,
-            1 << 56 | n,
-            1 << 59 | n,
-        ] {
-            let mut both = Both::new(other, Tables::new(n));
-            both.assert_all_refused(random, 1);
-            assert_eq!(set_up(&both), Err(1));
+        for &n in &[1, MAX_CAPACITY][..share.of(2)] {
+            let both = Both::new(n, Tables::new(n));
+            assert_eq!(both.ask(Query::CurrentValue(0)), Ok(Answer::Value(0)));
+            assert_eq!(set_up(&both), Ok(()));
+            // 256 × N and 32 × N may wrap to the right length.
+            for other in [
+                0,
+                n - 1,
+                n + 1,
+                65_536 + n,
+                1 << 32 | n,
+                1 << 56 | n,
+                1 << 59 | n,
+            ] {
+                let mut both = Both::new(other, Tables::new(n));
+                both.assert_all_refused(random, 1);
+                assert_eq!(set_up(&both), Err(1));
+            }
         }
-    }
+    });
 }
 
 #[test]
 fn set_up_leaves_the_same_tables_whatever_they_held() {
-    let random = &mut Random::new(generate::seed());
-    for index in 0..200 {
-        let n = match index {
-            0 => MAX_CAPACITY,
-            _ => random_tables::capacity(random),
-        };
-        let mut tables = Tables::new(n);
-        random_tables::fill(random, &mut tables);
-        let mut both = Both::new(n, tables);
-        assert_eq!(both.set_up(), Ok(()));
-        assert!(*both.tables() == Tables::new(n));
-    }
+    with_seeds(|random, share| {
+        for index in 0..share.of(200) {
+            let n = match index {
+                0 => MAX_CAPACITY,
+                _ => random_tables::capacity(random),
+            };
+            let mut tables = Tables::new(n);
+            random_tables::fill(random, &mut tables);
+            let mut both = Both::new(n, tables);
+            assert_eq!(both.set_up(), Ok(()));
+            assert!(*both.tables() == Tables::new(n));
+        }
+    });
 }

@@ -3,7 +3,7 @@
 #![forbid(unsafe_code)]
 #![warn(missing_docs)]
 
-use std::path::PathBuf;
+use std::path::{Path, PathBuf};
 use std::process::{exit, Command};
 use std::{env, fs};
 
@@ -25,8 +25,9 @@ pub fn program(name: &str) -> PathBuf {
 fn build(command: &str, name: &str, file: &str) -> PathBuf {
     let root = variable("CARGO_MANIFEST_DIR").join("../..");
     for source in ["crates.txt", "crates"] {
-        println!("cargo::rerun-if-changed={}", root.join(source).display());
+        watch(&root.join(source));
     }
+    watch_kit();
     let built = Command::new("rt")
         .args([command, name])
         .current_dir(&root)
@@ -45,6 +46,43 @@ fn build(command: &str, name: &str, file: &str) -> PathBuf {
         fail(&format!("`rt {command} {name}` left no {file}: {error}"));
     }
     copy
+}
+
+/// Has the build script run again with another kit: one in another place, or with newer files.
+///
+/// Of files cargo compares the times alone, and those of another kit may be older. So the kit's
+/// version is left beside what it built, in `kit`, and `.ci/run` compares that.
+fn watch_kit() {
+    for variable in ["PATH", "RATTLE_HOME"] {
+        println!("cargo::rerun-if-env-changed={variable}");
+    }
+    // The guide is in a folder of the kit's.
+    let guide = PathBuf::from(ask_kit("doc"));
+    if let Some(home) = guide.ancestors().nth(2) {
+        let files = ["KIT-ID", "bin/rt"].map(|file| home.join(file));
+        files
+            .iter()
+            .filter(|file| file.exists())
+            .for_each(|file| watch(file));
+    }
+    if let Err(error) = fs::write(variable("OUT_DIR").join("kit"), ask_kit("version")) {
+        fail(&format!("cannot write down the kit's version: {error}"));
+    }
+}
+
+/// What `rt` prints on this command.
+fn ask_kit(command: &str) -> String {
+    match Command::new("rt").arg(command).output() {
+        Ok(output) if output.status.success() => {
+            String::from_utf8_lossy(&output.stdout).trim().to_string()
+        }
+        Ok(output) => fail(&format!("`rt {command}` failed: {}", output.status)),
+        Err(error) => fail(&format!("cannot run `rt {command}`: {error}")),
+    }
+}
+
+fn watch(path: &Path) {
+    println!("cargo::rerun-if-changed={}", path.display());
 }
 
 fn variable(name: &str) -> PathBuf {

@@ -5,7 +5,8 @@ use crate::outside_tables;
 use crate::programs::hex;
 use crate::{printed, write_file};
 use comparison::generate::scripts::{Call, Source};
-use comparison::generate::{self, Random};
+use comparison::generate::Random;
+use comparison::seeds::with_seeds;
 use outside::calls::{current_value, plain_run, set_up, standing, value_as_of, Refusal};
 use outside::checker::{drain, turn, Turned};
 use outside::intake::{take_in, withdraw, Taken};
@@ -204,36 +205,38 @@ fn assert_counts(counts: &BTreeMap<String, usize>, forms: &[&str], least: usize)
 
 #[test]
 fn lists_of_calls_have_the_outside_answers_and_tables() {
-    let random = &mut Random::new(generate::seed());
-    let mut counts = BTreeMap::new();
-    for index in 0..LISTS {
-        let n = capacity(random);
-        let mut source = Source::new(random, n);
-        let mut script = Script::new(n);
-        match index % 4 {
-            0 => {
-                let held = random.below(n + 1);
-                let tables = source.tables(random, n, held);
-                script.load("random.json", tables);
+    let counts = with_seeds(|random, share| {
+        let mut counts = BTreeMap::new();
+        for index in 0..share.of(LISTS) {
+            let n = capacity(random);
+            let mut source = Source::new(random, n);
+            let mut script = Script::new(n);
+            match index % 4 {
+                0 => {
+                    let held = random.below(n + 1);
+                    let tables = source.tables(random, n, held);
+                    script.load("random.json", tables);
+                }
+                1 => {}
+                _ => script.set_up(),
             }
-            1 => {}
-            _ => script.set_up(),
+            for _ in 0..CALLS {
+                let call = source.call(random, &script.tables);
+                script.make(call);
+                if random.below(2) == 0 {
+                    script.query(random, &source);
+                }
+                if random.below(64) == 0 {
+                    script.print_tables();
+                }
+                if random.below(256) == 0 {
+                    script.set_up();
+                }
+            }
+            script.check(&mut counts);
         }
-        for _ in 0..CALLS {
-            let call = source.call(random, &script.tables);
-            script.make(call);
-            if random.below(2) == 0 {
-                script.query(random, &source);
-            }
-            if random.below(64) == 0 {
-                script.print_tables();
-            }
-            if random.below(256) == 0 {
-                script.set_up();
-            }
-        }
-        script.check(&mut counts);
-    }
+        counts
+    });
 
     println!("{counts:#?}");
     assert_counts(
@@ -314,29 +317,31 @@ fn alter_some_table(random: &mut Random, tables: &mut Tables) {
 
 #[test]
 fn calls_on_any_tables_have_the_outside_answers_and_tables() {
-    let random = &mut Random::new(generate::seed() + 1);
-    let mut counts = BTreeMap::new();
-    for _ in 0..LISTS_ON_ANY_TABLES {
-        let n = capacity(random);
-        let mut source = Source::new(random, n);
-        let held = random.below(n + 1);
-        let in_form = source.tables(random, n, held);
-        let mut tables = in_form.clone();
-        for _ in 0..random.below(3) {
-            alter_some_table(random, &mut tables);
+    let counts = with_seeds(|random, share| {
+        let mut counts = BTreeMap::new();
+        for _ in 0..share.of(LISTS_ON_ANY_TABLES) {
+            let n = capacity(random);
+            let mut source = Source::new(random, n);
+            let held = random.below(n + 1);
+            let in_form = source.tables(random, n, held);
+            let mut tables = in_form.clone();
+            for _ in 0..random.below(3) {
+                alter_some_table(random, &mut tables);
+            }
+            let mut script = Script::new(n);
+            script.load("random_any.json", tables);
+            for _ in 0..CALLS / 8 {
+                let call = source.call(random, &in_form);
+                script.make(call);
+                script.query(random, &source);
+            }
+            if random.below(2) == 0 {
+                script.set_up();
+            }
+            script.check(&mut counts);
         }
-        let mut script = Script::new(n);
-        script.load("random_any.json", tables);
-        for _ in 0..CALLS / 8 {
-            let call = source.call(random, &in_form);
-            script.make(call);
-            script.query(random, &source);
-        }
-        if random.below(2) == 0 {
-            script.set_up();
-        }
-        script.check(&mut counts);
-    }
+        counts
+    });
 
     println!("{counts:#?}");
     let calls = [

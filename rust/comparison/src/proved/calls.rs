@@ -3,10 +3,12 @@
 //!
 //! Each function makes its call on lent tables. The error is the refusal's number.
 
+use outside::book::LoggedTurn;
 use outside::calls::Standing;
 use outside::checker::{Totals, Turn, Turned};
 use outside::intake::Taken;
-use outside::tables::{self, Status};
+use outside::program::Access;
+use outside::tables::{self, Status, LIST_ENTRIES};
 use tolbezun::calls;
 use tolbezun::{Refusal, Tables};
 
@@ -105,6 +107,25 @@ pub fn turn(n: usize, tables: &mut Tables) -> Result<Option<Turn>, u8> {
         tolbezun::Turned::Cleared(timestamp) => (Turned::Cleared, timestamp),
     };
     Ok(Some(Turn { timestamp, turned }))
+}
+
+/// Makes a turn, and logs what demand 3 needs of it. The answer is none for idle.
+pub fn logged_turn(n: usize, tables: &mut Tables) -> Result<Option<LoggedTurn>, u8> {
+    let Some(turn) = turn(n, tables)? else {
+        return Ok(None);
+    };
+    let held = &tables.timestamps[..usize::from(tables.held[0])];
+    let place = held.iter().position(|&held| held == turn.timestamp);
+    let reads = place.map_or(Vec::new(), |place| {
+        let count = usize::from(tables.read_count[place]);
+        let settings = &tables.read_settings[LIST_ENTRIES * place..][..count];
+        let pairs = settings
+            .iter()
+            .zip(&tables.seen_values[LIST_ENTRIES * place..]);
+        let access = |(&setting, &value)| Access { setting, value };
+        pairs.map(access).collect()
+    });
+    Ok(Some(LoggedTurn { turn, reads }))
 }
 
 /// Drains.

@@ -18,7 +18,8 @@ mod programs;
 mod tables;
 mod timing;
 
-use comparison::generate::{self, Random};
+use comparison::generate::Random;
+use comparison::seeds;
 use std::env;
 use std::process::ExitCode;
 
@@ -42,7 +43,8 @@ fn main() -> ExitCode {
     if cfg!(debug_assertions) {
         eprintln!("warning: not built for release");
     }
-    let seed = generate::seed();
+    let seed = seeds::given().unwrap_or(seeds::FIXED);
+    println!("COMPARISON_SEED={seed}");
     println!("{}", timing::NOTE);
     for (section, print) in SECTIONS {
         if names.is_empty() || names.iter().any(|name| name == section) {

@@ -1,0 +1,315 @@
+//! The checking order: where an input meets two refusals of a call, the first of them is the answer.
+
+use comparison::both::{Both, Query};
+use comparison::generate::packages::{self, lay_out};
+use comparison::generate::tables::{self as random_tables, Breach, List, Table};
+use comparison::generate::{self, Random, Style};
+use comparison::seeds::with_seeds;
+use outside::package::{entries, Entry, ANSWERS};
+use outside::program::{self, op, INSTRUCTION_BYTES, MAX_INSTRUCTIONS, SETTINGS};
+use outside::tables::{check_lengths, in_form, Tables, INFINITY, PROGRAM_BYTES};
+
+/// How many inputs are made for each pair of refusals.
+const INPUTS: usize = 40;
+
+/// The pairs of refusals of one call that cannot meet, or not without an earlier refusal.
+///
+/// 8 and 11 need a timestamp that is held, 9 and 10 one that is not. 4 needs one that no tables in
+/// form hold: where it meets 8 or 11, so does 2, which comes first.
+///
+/// All others meet: also 6 and 7, since one is about the length of a program and the other about its
+/// instructions. For the same reason as above 4 always meets 10.
+const NEVER_MET: [(u8, u8); 4] = [(4, 8), (4, 11), (8, 9), (10, 11)];
+
+/// Breaches of form that change no held count, timestamp, flag and program, so that what is held, and
+/// how, is as plain as in tables in form.
+const BREACHES: [Breach; 5] = [
+    Breach::StatusAbove2,
+    Breach::CountAbove32(List::Reads),
+    Breach::CountAbove32(List::Writes),
+    Breach::NewWith(List::Reads),
+    Breach::NewWith(List::Writes),
+];
+
+/// The calls but set up, which tests lengths alone.
+#[derive(Clone, Copy, Debug, PartialEq, Eq)]
+enum Call {
+    TakeIn,
+    Withdraw,
+    TakeInPackage,
+    Turn,
+    Drain,
+    CurrentValue,
+    ValueAsOf,
+    Standing,
+    PlainRun,
+}
+
+impl Call {
+    const ALL: [Self; 9] = [
+        Self::TakeIn,
+        Self::Withdraw,
+        Self::TakeInPackage,
+        Self::Turn,
+        Self::Drain,
+        Self::CurrentValue,
+        Self::ValueAsOf,
+        Self::Standing,
+        Self::PlainRun,
+    ];
+
+    /// What the call is turned down for, in checking order.
+    fn refusals(self) -> &'static [u8] {
+        match self {
+            Self::TakeIn => &[1, 2, 4, 6, 7, 8, 9],
+            Self::Withdraw => &[1, 2, 4, 10, 11],
+            Self::TakeInPackage => &[1, 2, 3],
+            Self::Turn | Self::Drain | Self::PlainRun => &[1, 2],
+            Self::CurrentValue => &[1, 2, 5],
+            Self::ValueAsOf => &[1, 2, 4, 5],
+            Self::Standing => &[1, 2, 4, 10],
+        }
+    }
+
+    /// No refusal, each alone, and each pair that an input can meet.
+    fn to_be_met(self) -> Vec<Vec<u8>> {
+        let mut to_be_met = vec![vec![]];
+        for (index, &first) in self.refusals().iter().enumerate() {
+            to_be_met.push(vec![first]);
+            for &second in &self.refusals()[index + 1..] {
+                if !NEVER_MET.contains(&(first, second)) {
+                    to_be_met.push(vec![first, second]);
+                }
+            }
+        }
+        to_be_met
+    }
+}
+
+/// A call with arguments, of which each call takes some.
+#[derive(Debug)]
+struct Input {
+    call: Call,
+    n: usize,
+    tables: Tables,
+    timestamp: u64,
+    program: Vec<u8>,
+    package: Vec<u8>,
+    setting: usize,
+    /// The lengths of the slices that a package's answers and a plain run's settings are written to.
+    answers: usize,
+    settings: usize,
+}
+
+impl Input {
+    /// A random input that meets these refusals of the call, and no others but 10 with 4.
+    fn meeting(random: &mut Random, call: Call, refusals: &[u8]) -> Self {
+        let met = |refusal| refusals.contains(&refusal);
+        let n = 3 + random.below(6);
+        let held = match met(9) {
+            true => n,
+            false => 2 + random.below(n - 2),
+        };
+        let mut tables = random_tables::in_form(random, n, held);
+        let (withdrawn, standing) = (0, 1);
+        tables.withdrawn[withdrawn] = 1;
+        tables.withdrawn[standing] = 0;
+        let timestamp = match call {
+            Call::ValueAsOf if met(4) => 0,
+            _ if met(4) => random.pick(&[0, INFINITY]),
+            _ if met(11) => tables.timestamps[withdrawn],
+            Call::TakeIn if !met(8) => not_held(random, &tables),
+            _ if met(10) => not_held(random, &tables),
+            _ => tables.timestamps[standing],
+        };
+        let mut input = Self {
+            call,
+            n,
+            program: not_held_program(random, &tables),
+            package: lay_out(&packages::entries(random, &tables.timestamps[..held])),
+            tables,
+            timestamp,
+            setting: random.below(SETTINGS),
+            answers: ANSWERS,
+            settings: SETTINGS,
+        };
+        for &refusal in refusals {
+            input.change(random, refusal);
+        }
+        input
+    }
+
+    /// Has the input meet a refusal that is not about what the tables hold.
+    fn change(&mut self, random: &mut Random, refusal: u8) {
+        match (refusal, self.call) {
+            (1, Call::TakeInPackage) if random.below(2) == 0 => self.answers -= 1,
+            (1, Call::PlainRun) if random.below(2) == 0 => self.settings += 1,
+            (1, _) => {
+                let length = random.pick(&[0, SETTINGS - 1, SETTINGS + 1]);
+                Table::View.resize(&mut self.tables, length);
+            }
+            (2, _) => {
+                let made = random.pick(&BREACHES).make(random, &mut self.tables);
+                made.expect("changes are held");
+            }
+            (3, _) => loop {
+                let breach = random.pick(&packages::Breach::ALL);
+                if breach.make(random, &mut self.package).is_some() {
+                    break;
+                }
+            },
+            (5, _) => self.setting = random.pick(&[SETTINGS, 65_536, usize::MAX]),
+            (6, _) => {
+                let length = match random.below(2) {
+                    0 => self.program.len() + 1 + random.below(INSTRUCTION_BYTES - 1),
+                    _ => PROGRAM_BYTES + INSTRUCTION_BYTES,
+                };
+                // More instructions are stops.
+                self.program.resize(length, 0);
+            }
+            (7, _) => self.program[0] = op::COUNT + random.below(200) as u8,
+            _ => {}
+        }
+    }
+
+    /// The refusals that the input meets, each by document 01's words for it, in checking order.
+    fn met(&self) -> Vec<u8> {
+        let place = self.tables.place_of(self.timestamp);
+        let met = |refusal: u8| match refusal {
+            1 => {
+                !check_lengths(self.n, &self.tables)
+                    || self.answers != ANSWERS
+                    || self.settings != SETTINGS
+            }
+            2 => !in_form(self.n, &self.tables),
+            3 => entries(&self.package).is_none(),
+            4 => match self.call {
+                Call::ValueAsOf => self.timestamp == 0,
+                _ => self.timestamp == 0 || self.timestamp == INFINITY,
+            },
+            5 => self.setting >= SETTINGS,
+            6 => self.program.len() > PROGRAM_BYTES || self.program.len() % INSTRUCTION_BYTES != 0,
+            7 => {
+                let (instructions, _) = self.program.as_chunks::<INSTRUCTION_BYTES>();
+                let accepted = &instructions[..instructions.len().min(MAX_INSTRUCTIONS)];
+                program::check(accepted.as_flattened()).is_err()
+            }
+            8 => place.is_some_and(|place| self.tables.program(place) != self.program),
+            9 => place.is_none() && self.tables.held_count() == self.n,
+            10 => place.is_none(),
+            11 => place.is_some_and(|place| self.tables.withdrawn[place] == 1),
+            _ => unreachable!("there is no refusal {refusal}"),
+        };
+        let refusals = self.call.refusals().iter().copied();
+        refusals.filter(|&refusal| met(refusal)).collect()
+    }
+
+    /// The refusal that both answer, if they do.
+    fn refusal(&self, random: &mut Random) -> Option<u8> {
+        let mut both = Both::new(self.n, self.tables.clone());
+        let (timestamp, setting) = (self.timestamp, self.setting);
+        match self.call {
+            Call::TakeIn => both.take_in(timestamp, &self.program).err(),
+            Call::Withdraw => both.withdraw(timestamp).err(),
+            Call::TakeInPackage => {
+                let mut answers = packages::answers(random, self.answers);
+                both.take_in_package(&self.package, &mut answers).err()
+            }
+            Call::Turn => both.turn().err(),
+            Call::Drain => both.drain().err(),
+            Call::CurrentValue => both.ask(Query::CurrentValue(setting)).err(),
+            Call::ValueAsOf => both.ask(Query::ValueAsOf(timestamp, setting)).err(),
+            Call::Standing => both.ask(Query::Standing(timestamp)).err(),
+            Call::PlainRun => both.ask(Query::PlainRun(self.settings)).err(),
+        }
+    }
+
+    /// The same as the only entry of a package, where it is a change or a withdrawal and tables and
+    /// program have the lengths and the form for it.
+    fn entry(&self, refusals: &[u8]) -> Option<Entry> {
+        let timestamp = self.timestamp;
+        match self.call {
+            _ if refusals.iter().any(|refusal| [1, 2, 6].contains(refusal)) => None,
+            Call::TakeIn => Some(Entry::Change {
+                timestamp,
+                program: self.program.clone(),
+            }),
+            Call::Withdraw => Some(Entry::Withdrawal { timestamp }),
+            _ => None,
+        }
+    }
+}
+
+/// A timestamp that these tables do not hold.
+fn not_held(random: &mut Random, tables: &Tables) -> u64 {
+    loop {
+        let timestamp = random.bits().clamp(1, INFINITY - 1);
+        if tables.place_of(timestamp).is_none() {
+            return timestamp;
+        }
+    }
+}
+
+/// A program of an instruction or more that is none of those that these tables hold.
+fn not_held_program(random: &mut Random, tables: &Tables) -> Vec<u8> {
+    loop {
+        let length = 1 + random.below(MAX_INSTRUCTIONS);
+        let program = generate::program(random, &Style::FEW_SETTINGS, length);
+        let mut places = 0..tables.held_count();
+        if places.all(|place| tables.program(place) != program) {
+            return program;
+        }
+    }
+}
+
+#[test]
+fn the_first_of_two_refusals_is_the_answer() {
+    let pairs = with_seeds(|random, share| {
+        let mut pairs = 0;
+        for call in Call::ALL {
+            for refusals in call.to_be_met() {
+                for _ in 0..share.of(INPUTS) {
+                    let input = Input::meeting(random, call, &refusals);
+                    let met = input.met();
+                    let with_10 = refusals.contains(&4) && met == [&refusals[..], &[10]].concat();
+                    assert!(met == refusals || with_10, "{met:?}, not {refusals:?}");
+                    let first = met.first().copied();
+                    assert_eq!(input.refusal(random), first, "{input:?} meets {met:?}");
+                    if let Some(entry) = input.entry(&refusals) {
+                        let mut both = Both::new(input.n, input.tables.clone());
+                        let mut answers = packages::answers(random, ANSWERS);
+                        let taken = both.take_in_package(&lay_out(&[entry]), &mut answers);
+                        assert_eq!((taken, answers[0]), (Ok(()), first.unwrap_or(0)));
+                    }
+                }
+                pairs += usize::from(refusals.len() == 2);
+            }
+        }
+        pairs
+    });
+    println!("{pairs} pairs of refusals");
+}
+
+/// The pairs of which one is 4, on tables that hold a timestamp that is 0 or 2^64 − 1.
+#[test]
+fn a_timestamp_that_is_none_is_held_by_no_tables_in_form() {
+    with_seeds(|random, share| {
+        for (call, refusal) in [(Call::TakeIn, 8), (Call::Withdraw, 11)] {
+            for breach in [Breach::TimestampZero, Breach::TimestampInfinity] {
+                for _ in 0..share.of(INPUTS) {
+                    let mut input = Input::meeting(random, call, &[]);
+                    let held = input.tables.held_count();
+                    input.tables.withdrawn[..held].fill(1);
+                    let made = breach.make(random, &mut input.tables);
+                    made.expect("changes are held");
+                    input.timestamp = match breach {
+                        Breach::TimestampZero => 0,
+                        _ => INFINITY,
+                    };
+                    assert_eq!(input.met(), [2, 4, refusal]);
+                    assert_eq!(input.refusal(random), Some(2));
+                }
+            }
+        }
+    });
+}
