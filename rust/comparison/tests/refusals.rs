@@ -188,11 +188,14 @@ impl Input {
                 _ => self.timestamp == 0 || self.timestamp == INFINITY,
             },
             5 => self.setting >= SETTINGS,
-            6 => self.program.len() > PROGRAM_BYTES || self.program.len() % INSTRUCTION_BYTES != 0,
+            6 => {
+                let length = self.program.len();
+                length > PROGRAM_BYTES || !length.is_multiple_of(INSTRUCTION_BYTES)
+            }
             7 => {
                 let (instructions, _) = self.program.as_chunks::<INSTRUCTION_BYTES>();
-                let accepted = &instructions[..instructions.len().min(MAX_INSTRUCTIONS)];
-                program::check(accepted.as_flattened()).is_err()
+                let most = instructions.len().min(MAX_INSTRUCTIONS);
+                program::check(instructions[..most].as_flattened()).is_err()
             }
             8 => place.is_some_and(|place| self.tables.program(place) != self.program),
             9 => place.is_none() && self.tables.held_count() == self.n,
