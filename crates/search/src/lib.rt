@@ -4,7 +4,7 @@ ghost use Prim.Native.Nat.{_+_, _*_, _<_, _≤_};
 ghost use lib.ListN.{length, drop};
 ghost use Rattle.machine.specs.Settings.{lookup, entries};
 ghost use Rattle.model.specs.History.{isTimestamp};
-ghost use Rattle.search.specs.Searches.{rankOf, positionOf, foundOf, writtenOf, previousWrite, PlacesWithin, WriteLists};
+ghost use Rattle.search.specs.Searches.{rankOf, stampedAt, positionOf, foundOf, writtenOf, previousWrite, PlacesWithin, WriteLists};
 
 // The position in the order list of a timestamp.
 pub enum Found {
@@ -41,18 +41,26 @@ pub fn rank(t: u64, count: usize, order: &[u16], timestamps: &[u64]) -> usize
     0
 }
 
+// Whether the change at position k of the first count of the order list is of timestamp t.
+pub fn stamped_at(t: u64, k: usize, count: usize, order: &[u16], timestamps: &[u64]) -> bool
+    requires { ⌜ PlacesWithin count (now order) (length (now timestamps)) ⌝ }
+    ensures { λ r. ⌜ r ≡ stampedAt (now (order .entry)) (now (timestamps .entry)) t count k ⌝ }
+{
+    if count <= k {
+        return false;
+    }
+    let place = order[k] as usize;
+    timestamps[place] == t
+}
+
 // The position of the change of timestamp t among the first count of the order list.
 pub fn position(t: u64, count: usize, order: &[u16], timestamps: &[u64]) -> Found
     requires { ⌜ PlacesWithin count (now order) (length (now timestamps)) ⌝ }
     ensures { λ r. ⌜ r ≡ foundOf (positionOf (now (order .entry)) (now (timestamps .entry)) t count) ⌝ }
 {
     let k = rank(t, count, order, timestamps);
-    if k < count {
-        let place = order[k] as usize;
-        let stamp = timestamps[place];
-        if stamp == t {
-            return Found::At(k);
-        }
+    if stamped_at(t, k, count, order, timestamps) {
+        return Found::At(k);
     }
     Found::Nothing
 }
