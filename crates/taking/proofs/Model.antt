@@ -9,7 +9,7 @@ use lib.ListN.{length, getD, set}
 use Rattle.machine.proofs.Cases.{by-test}
 use Rattle.model.specs.declared.Answer.{Answer}
 use Rattle.model.specs.declared.Answer.the-variants as answer
-use Rattle.model.specs.History.{Change, program}
+use Rattle.model.specs.History.{Change}
 use Rattle.model.specs.Cabinet.{blank, find, add}
 use Rattle.model.specs.Tables.{Tables, withTaking, encode, heldCount, programAt, decode}
 use Rattle.model.specs.Refusals.{sameBytes}

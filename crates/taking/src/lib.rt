@@ -7,7 +7,6 @@ use search::rank;
 use search::stamped_at;
 use tables::held_count;
 ghost use mathlib.Core.Path.{_≡_};
-ghost use mathlib.Core.Bool.{cond};
 ghost use Prim.Native.Nat.{_+_, _*_, _<_, _≤_};
 ghost use lib.ListN.{length, getD};
 ghost use Rattle.model.specs.declared.Answer.the-variants as answer;

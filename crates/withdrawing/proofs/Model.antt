@@ -1,24 +1,22 @@
 -- Withdrawing on tables that are in form, as the model has it.
 use mathlib.Core.Path.{_≡_, refl, sym, ap, ap₂, subst, _∙_}
-use mathlib.Core.Bool.{Bool, true, false, not}
+use mathlib.Core.Bool.{Bool, true, false}
 use mathlib.Core.List.{List}
 use mathlib.Core.Option.{none, some}
 use Prim.Native.Nat.{ℕ, _<_}
 use native.Mathlib.Omega.{arith}
-use borrow.Author.Tests.{eq-eqb, ne-eqb}
-use lib.Dec.{eqb}
 use lib.ListN.{length, getD, set}
 use Rattle.model.specs.declared.Answer.the-variants as answer
-use Rattle.model.specs.History.{isTimestamp, Change, timestamp, status, withdrawn}
+use Rattle.model.specs.History.{isTimestamp, Change, timestamp, withdrawn}
 use Rattle.model.specs.Cabinet.{Cabinet, blank, historyOf, find, flag, remove}
-use Rattle.model.specs.Tables.{Tables, withWithdrawing, statusNumber, flagNumber, encode, heldCount, decode}
+use Rattle.model.specs.Tables.{Tables, withWithdrawing, flagNumber, encode, decode}
 use Rattle.model.specs.Sound.{Sound}
 use Rattle.model.specs.Form.{Formed}
 use Rattle.model.specs.Package.{withdrawing}
 use Rattle.model.specs.Calls.{reply, itemAnswer, itemCall}
 use Rattle.model.proofs.Form.{facts}
 use Rattle.model.proofs.Order.{below-at}
-use Rattle.model.proofs.Tables.{order-at, status-at, withdrawn-at}
+use Rattle.model.proofs.Tables.{status-at, withdrawn-at}
 use Rattle.model.proofs.Restated.{restated}
 use Rattle.search.proofs.Model.{historyIn, positionIn, held-changes, place-of, position-none, position-some, position-change}
 use Rattle.tables.proofs.Parts.{item-replied}

@@ -1,6 +1,5 @@
 -- `taking::take_item` meets its contract: an outcome for each return, whatever the other tables are. Assumes nothing.
-use mathlib.Core.Path.{_≡_, refl, sym, _∙_}
-use mathlib.Core.Bool.{true, false}
+use mathlib.Core.Path.{refl, sym, _∙_}
 use Prim.Native.Nat.{_<_, _≤_}
 use native.Mathlib.Omega.{arith}
 use borrow.Author.Tests.{not-true, not-false}
@@ -9,7 +8,6 @@ use Rattle.model.specs.Tables.{Tables, withTaking, heldCount}
 use Rattle.model.specs.Package.{taking}
 use Rattle.model.proofs.Tests.{Lengths}
 use Rattle.model.proofs.Form.{facts}
-use Rattle.search.specs.Searches.{stampedAt}
 use Rattle.search.proofs.Model.{placed}
 use Rattle.search.proofs.Steps.{rank-within}
 use Rattle.tables.proofs.Parts.{item-replied}
