@@ -1,26 +1,34 @@
 -- The answer to a taking in, by its tests in order.
 use mathlib.Core.Path.{_≡_, refl}
 use mathlib.Core.Bool.{Bool, true, false, cond, not, _&&_}
-use mathlib.Core.List.{List}
+use mathlib.Core.List.{List, [], _∷_}
 use mathlib.Core.Option.{none, some}
 use Prim.Native.Nat.{ℕ, _≤_, _<_}
-use borrow.Author.Tests.{le-leb, lt-leb}
+use native.Mathlib.Omega.{arith}
+use borrow.Author.Tests.{ne-eqb, le-leb, lt-leb, not-false}
 use lib.Dec.{leb}
 use lib.ListN.{length}
 use Rattle.machine.specs.Form.{lengthFits, wellFormed}
 use Rattle.model.specs.declared.Answer.the-variants as answer
 use Rattle.model.specs.History.{isTimestamp, Change, program}
 use Rattle.model.specs.Cabinet.{Cabinet, historyOf, find}
-use Rattle.model.specs.Refusals.{sameBytes}
+use Rattle.model.specs.Refusals.{firstOf, sameBytes, heldOtherwise, full}
 use Rattle.model.specs.Package.{taking}
 use Rattle.model.specs.Calls.{unlessRead, itemAnswer}
-use Rattle.taking.specs.Taking.{comparedAnswer}
+use Rattle.model.proofs.Items.{none-applies}
+use Rattle.tables.proofs.Faults.{first-refusal}
+use Rattle.taking.specs.Taking.{argumentTests, comparedAnswer}
 
 -- refusals 4, 6 and 7 do not apply
 pub record Acceptable (t : ℕ) (p : List ℕ) : Type 0 where
   pub stamped : isTimestamp t ≡ true
   pub sized : lengthFits p ≡ true
   pub formed : wellFormed p ≡ true
+
+pub acceptable : (t : ℕ) (p : List ℕ) → firstOf (argumentTests t p) ≡ 0 → Acceptable t p
+acceptable t p e =
+    let z = none-applies (argumentTests t p) (omega arith) e in
+    record { stamped = not-false _ (z .0); sized = not-false _ (z .1 .0); formed = not-false _ (z .1 .1 .0) }
 
 -- a held timestamp, by the test of the bytes and the one of the held count, which does not matter then
 by-tests : (same full : Bool) → cond same answer.Held (answer.Refused 8) ≡ unlessRead (cond (not same) 8 (cond (full && false) 9 0)) answer.Refused answer.Held
@@ -29,17 +37,10 @@ by-tests true false = refl
 by-tests false full = refl
 
 module _ (n : ℕ) (c : Cabinet) (t : ℕ) (p : List ℕ) where
-  pub no-timestamp : isTimestamp t ≡ false → answer.Refused 4 ≡ itemAnswer n c (taking t p)
+  -- refused by themselves
+  pub refused : {r : ℕ} → r ≡ firstOf (argumentTests t p) → (r ≡ 0 → ⊥) → answer.Refused r ≡ itemAnswer n c (taking t p)
   unfolding itemAnswer
-  no-timestamp e = rw e
-
-  pub wrong-length : isTimestamp t ≡ true → lengthFits p ≡ false → answer.Refused 6 ≡ itemAnswer n c (taking t p)
-  unfolding itemAnswer
-  wrong-length a e = rw (a, e)
-
-  pub not-formed : isTimestamp t ≡ true → lengthFits p ≡ true → wellFormed p ≡ false → answer.Refused 7 ≡ itemAnswer n c (taking t p)
-  unfolding itemAnswer
-  not-formed a b e = rw (a, b, e)
+  refused e f = rw (← first-refusal (argumentTests t p) (heldOtherwise c t p ∷ full n c t ∷ []) e f, ne-eqb _ 0 f)
 
   module _ (a : Acceptable t p) where
     -- the timestamp is held

@@ -1,12 +1,16 @@
 -- What the parts of a taking in answer and store, as functions of the lent lists.
 use mathlib.Core.Bool.{cond}
-use mathlib.Core.List.{List, _∷_, _++_}
+use mathlib.Core.List.{List, [], _∷_, _++_}
 use Prim.Native.Nat.{ℕ, _+_}
 use lib.ListN.{length, take, drop}
 use lib.Seq.{slice}
 use Rattle.model.specs.declared.Answer.{Answer}
 use Rattle.model.specs.declared.Answer.the-variants as answer
-use Rattle.model.specs.Refusals.{sameBytes}
+use Rattle.model.specs.Refusals.{Test, noTimestamp, wrongProgramLength, malformed, sameBytes}
+
+-- refusals 4, 6 and 7, which the timestamp and the program decide
+abbrev pub argumentTests : ℕ → List ℕ → List Test
+argumentTests t p = noTimestamp t ∷ wrongProgramLength p ∷ malformed p ∷ []
 
 -- the answer to a program whose timestamp is held with some program: the same, or refusal 8
 abbrev pub comparedAnswer : List ℕ → List ℕ → Answer

@@ -14,7 +14,24 @@ ghost use Rattle.model.specs.Tables.{programIn, withTaking};
 ghost use Rattle.model.specs.Refusals.{sameBytes};
 ghost use Rattle.model.specs.Package.{taking};
 ghost use Rattle.tables.specs.Parts.{PartFormed, ItemAnswered};
-ghost use Rattle.taking.specs.Taking.{copied, entered, comparedAnswer};
+ghost use Rattle.model.specs.Refusals.{firstOf};
+ghost use Rattle.taking.specs.Taking.{argumentTests, comparedAnswer, entered, copied};
+
+// The refusal of a timestamp and a program by themselves: 4, 6 or 7, or 0 where there is none.
+fn refusal_of(timestamp: u64, program: &[u8]) -> u8
+    ensures { λ r. ⌜ r ≡ firstOf (argumentTests timestamp (now (program .entry))) ⌝ }
+{
+    if !is_timestamp(timestamp) {
+        return 4;
+    }
+    if !length_fits(program) {
+        return 6;
+    }
+    if !well_formed(program) {
+        return 7;
+    }
+    0
+}
 
 // Whether two programs are the same bytes.
 fn same_bytes(a: &[u8], b: &[u8]) -> bool
@@ -89,14 +106,9 @@ pub fn take_item(
         (taking timestamp (now (program .entry))) r
         ⌝ }
 {
-    if !is_timestamp(timestamp) {
-        return Answer::Refused(4);
-    }
-    if !length_fits(program) {
-        return Answer::Refused(6);
-    }
-    if !well_formed(program) {
-        return Answer::Refused(7);
+    let refusal = refusal_of(timestamp, program);
+    if refusal != 0 {
+        return Answer::Refused(refusal);
     }
     let count = held_count(held);
     let position = rank(timestamp, count, order, timestamps);
