@@ -1,11 +1,11 @@
 // The calls take in, withdraw, and take in a package.
-use item_steps::take_item;
-use item_steps::withdraw_item;
 use model::Answer;
 pub use package_intake::take_in_package;
 use tables::form::fault;
+use taking::take_item;
+use withdrawing::withdraw_item;
 ghost use mathlib.Core.Path.{_≡_};
-ghost use Rattle.model.specs.Tables.{tables};
+ghost use Rattle.model.specs.Tables.{tables, withTaking, withWithdrawing};
 ghost use Rattle.model.specs.Calls.{reply, takeIn, withdraw};
 
 // Taking in: a program stored at the next place, New, not withdrawn, its lists empty.
@@ -28,7 +28,14 @@ pub fn take_in(
     timestamp: u64,
     program: &[u8],
 ) -> Answer
-    ensures { λ r. ⌜ reply r (tables (now (held .exit)) (now (timestamps .exit)) (now (order .exit)) (now (status .entry)) (now (withdrawn .entry)) (now (lengths .exit)) (now (programs .exit)) (now (reads .entry)) (now (writes .entry)) (now (sources .entry)) (now (seen .entry)) (now (targets .entry)) (now (written .entry)) (now (view .entry))) ≡ takeIn n (tables (now (held .entry)) (now (timestamps .entry)) (now (order .entry)) (now (status .entry)) (now (withdrawn .entry)) (now (lengths .entry)) (now (programs .entry)) (now (reads .entry)) (now (writes .entry)) (now (sources .entry)) (now (seen .entry)) (now (targets .entry)) (now (written .entry)) (now (view .entry))) timestamp (now (program .entry)) ⌝ }
+    ensures { λ r. ⌜
+        (let T =
+        tables (now (held .entry)) (now (timestamps .entry)) (now (order .entry)) (now (status .entry)) (now (withdrawn .entry))
+        (now (lengths .entry)) (now (programs .entry)) (now (reads .entry)) (now (writes .entry)) (now (sources .entry))
+        (now (seen .entry)) (now (targets .entry)) (now (written .entry)) (now (view .entry)) in
+        reply r (withTaking T (now (held .exit)) (now (timestamps .exit)) (now (order .exit)) (now (lengths .exit)) (now (programs .exit)))
+        ≡ takeIn n T timestamp (now (program .entry)))
+        ⌝ }
 {
     let refusal = fault(
         n,
@@ -51,7 +58,6 @@ pub fn take_in(
         return Answer::Refused(refusal);
     }
     take_item(
-        n,
         held,
         timestamps,
         order,
@@ -81,7 +87,14 @@ pub fn withdraw(
     view: &[i32],
     timestamp: u64,
 ) -> Answer
-    ensures { λ r. ⌜ reply r (tables (now (held .entry)) (now (timestamps .entry)) (now (order .entry)) (now (status .exit)) (now (withdrawn .exit)) (now (lengths .entry)) (now (programs .entry)) (now (reads .entry)) (now (writes .entry)) (now (sources .entry)) (now (seen .entry)) (now (targets .entry)) (now (written .entry)) (now (view .entry))) ≡ withdraw n (tables (now (held .entry)) (now (timestamps .entry)) (now (order .entry)) (now (status .entry)) (now (withdrawn .entry)) (now (lengths .entry)) (now (programs .entry)) (now (reads .entry)) (now (writes .entry)) (now (sources .entry)) (now (seen .entry)) (now (targets .entry)) (now (written .entry)) (now (view .entry))) timestamp ⌝ }
+    ensures { λ r. ⌜
+        (let T =
+        tables (now (held .entry)) (now (timestamps .entry)) (now (order .entry)) (now (status .entry)) (now (withdrawn .entry))
+        (now (lengths .entry)) (now (programs .entry)) (now (reads .entry)) (now (writes .entry)) (now (sources .entry))
+        (now (seen .entry)) (now (targets .entry)) (now (written .entry)) (now (view .entry)) in
+        reply r (withWithdrawing T (now (status .exit)) (now (withdrawn .exit)))
+        ≡ withdraw n T timestamp)
+        ⌝ }
 {
     let refusal = fault(
         n,

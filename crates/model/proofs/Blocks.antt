@@ -125,6 +125,19 @@ module _ {A : Type 0} (n width : ℕ) (z : A) (f : Change → List A) where
   pub blocks-length : (changes : List Change) → Fits width f changes → length changes ≤ n → length (blocks n width z f changes) ≡ width * n
   blocks-length changes k h = pad-length (width * n) z (padded width z f changes) (rw (padded-length changes k) (mul-le-mul-left width h))
 
+  padded-same : (a b : List Change) → map f a ≡ map f b → padded width z f a ≡ padded width z f b
+  padded-same [] [] e = refl
+  padded-same [] (d ∷ b) e = cc
+  padded-same (c ∷ a) [] e = cc
+  padded-same (c ∷ a) (d ∷ b) e =
+      let here : f c ≡ f d = cc in
+      let rest : map f a ≡ map f b = cc in
+      ap₂ (λ (x y : List A). pad width z x ++ y) here (padded-same a b rest)
+
+  -- the same lists of each place
+  pub blocks-same : (a b : List Change) → map f a ≡ map f b → blocks n width z f a ≡ blocks n width z f b
+  blocks-same a b e = ap (pad (width * n) z) (padded-same a b e)
+
   -- zeros behind the held places
   pub blocks-rest : (changes : List Change) → Fits width f changes → drop (width * length changes) (blocks n width z f changes) ≡ replicate (width * n - width * length changes) z
   blocks-rest changes k = rw (drop-at (padded width z f changes) _ (width * length changes) (padded-length changes k), padded-length changes k)

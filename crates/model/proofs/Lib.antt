@@ -17,3 +17,4 @@ pub mod Tables
 pub mod Encode
 pub mod Decode
 pub mod Form
+pub mod Restated

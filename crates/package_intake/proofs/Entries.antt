@@ -1,13 +1,13 @@
--- The entries of a package, carried out one after the other on the tables that items alter.
+-- The entries of a package, carried out one after the other on the part of the tables that items alter.
 use mathlib.Core.Path.{_≡_, refl, sym, ap, subst, _∙_}
 use mathlib.Core.List.{List}
-use Prim.Native.Nat.{ℕ, _+_, _-_, _*_, _<_, _≤_}
+use Prim.Native.Nat.{ℕ, _+_, _*_, _<_, _≤_}
 use native.Mathlib.Omega.{arith}
-use lib.ListN.{length, set, take, drop}
+use lib.ListN.{length, set}
 use Rattle.model.specs.declared.Answer.{Answer}
 use Rattle.model.specs.Cabinet.{Cabinet}
 use Rattle.model.specs.Tables.{Tables, encode, decode}
-use Rattle.model.specs.Package.{Item, entryCount, entryAt, stampOf, kindOf, countOf, bodyAt, itemAt}
+use Rattle.model.specs.Package.{Item, entryCount, entryAt, countOf, itemAt}
 use Rattle.model.specs.Calls.{Reply, answerNumber, reply, itemAnswer, itemStep, itemCall}
 use Rattle.model.specs.Sound.{Sound}
 use Rattle.model.proofs.Tests.{Lengths}
@@ -15,22 +15,16 @@ use Rattle.model.proofs.Tables.{decode-encode}
 use Rattle.model.proofs.Items.{of-answer}
 use Rattle.model.proofs.Form.{facts, encode-formed}
 use Rattle.model.specs.Form.{Formed}
+use Rattle.tables.specs.Parts.{PartFormed, ItemAnswered}
 use Rattle.packages.proofs.Entries.{laid-out, entry-within, body-within}
-use Rattle.packages.proofs.Items.{item-taking, item-withdrawing}
 use Rattle.packages.proofs.Carried.{Carried, cabinet-sound, carried-none, carried-faultless, carried-length, carried-next}
 use Rattle.packages.proofs.Outcomes.{package-done}
-use Rattle.item_steps.specs.Raw.{TakenItem, WithdrawnItem}
-use Rattle.package_intake.specs.Entries.{PartFormed, ItemTables, itemTables, withItems, EntryReady, EntryTaken, EntriesReady, EntriesTaken}
-use Rattle.item_steps.proofs.Items.{item-reply, take-outcome, withdraw-outcome}
-
--- the lengths of tables in form
-pub formed-lengths : {n : ℕ} {I : ItemTables} (f : PartFormed n I) → Lengths n (withItems (f .whole) I)
-formed-lengths f = facts (f .faultless) .lengths
+use Rattle.package_intake.specs.Entries.{EntryReady, EntriesReady, EntriesTaken}
 
 -- ---- one entry
 
 -- it is within the bytes, and so is its body
-module _ {n j body : ℕ} {bytes : List ℕ} {I : ItemTables} (r : EntryReady n bytes j body I) where
+module _ {j body : ℕ} {bytes : List ℕ} {part : Tables → Tables} (r : EntryReady bytes j body part) where
   pub bytes-short : length bytes ≤ 65535
   bytes-short = laid-out bytes (r .laid-out) .short
 
@@ -40,22 +34,12 @@ module _ {n j body : ℕ} {bytes : List ℕ} {I : ItemTables} (r : EntryReady n 
   pub body-inside : {count : ℕ} → count ≡ countOf bytes j → body + 8 * count ≤ length bytes
   body-inside e = omega (arith, r .begins, body-within bytes (laid-out bytes (r .laid-out)) j (r .within))
 
-module _ {n j t : ℕ} {bytes : List ℕ} {I : ItemTables} {a : Answer} (stamped : t ≡ stampOf bytes j) where
-  -- of kind 0, after `take_item`
-  pub entry-taken : {body count : ℕ} {held timestamps order lengths programs : List ℕ} → kindOf bytes j ≡ 0 → body ≡ bodyAt bytes j → count ≡ countOf bytes j → TakenItem n t (take (body + 8 * count - body) (drop body bytes)) a (I .held) (I .timestamps) (I .order) (I .lengths) (I .programs) held timestamps order lengths programs → EntryTaken n bytes j a I (itemTables held timestamps order (I .status) (I .withdrawn) lengths programs)
-  entry-taken kind begins counted k =
-      record {
-        taken = λ T g.
-            item-reply n (withItems T I) _ g (take-outcome n (withItems T I) g t _ k) ∙ ap (itemCall n (withItems T I)) (item-taking bytes j stamped kind begins counted);
-      }
+-- fewer of the tables, and an item on them
+pub formed-on : {part : Tables → Tables} (more : Tables → Tables) → PartFormed (λ T. part (more T)) → PartFormed part
+formed-on more f = record { capacity = f .capacity; others = more (f .others); formed = f .formed }
 
-  -- of another kind, after `withdraw_item`
-  pub entry-withdrawn : {status' withdrawn' : List ℕ} → (kindOf bytes j ≡ 0 → ⊥) → WithdrawnItem t a (I .held) (I .timestamps) (I .order) (I .status) (I .withdrawn) status' withdrawn' → EntryTaken n bytes j a I (itemTables (I .held) (I .timestamps) (I .order) status' withdrawn' (I .lengths) (I .programs))
-  entry-withdrawn kind k =
-      record {
-        taken = λ T g.
-            item-reply n (withItems T I) _ g (withdraw-outcome n (withItems T I) g t k) ∙ ap (itemCall n (withItems T I)) (item-withdrawing bytes j stamped kind);
-      }
+pub answered-on : {before after : Tables → Tables} {i : Item} {a : Answer} (more : Tables → Tables) (j : Item) → ItemAnswered before after i a → i ≡ j → ItemAnswered (λ T. before (more T)) (λ T. after (more T)) j a
+answered-on {before} more j k e = record { answered = λ {n} T g. k .answered (more T) g ∙ ap (itemCall n (before (more T))) e }
 
 -- an item called on tables that hold a sound cabinet: its answer, and the cabinet after it
 next-item : {n : ℕ} {c : Cabinet} {T U : Tables} (i : Item) {a : Answer} → Sound n c → T ≡ encode n c → reply a U ≡ itemCall n T i → (a ≡ itemAnswer n c i) × (U ≡ encode n (itemStep n c i))
@@ -68,53 +52,57 @@ next-item {n} {c} {T} {U} i {a} s e q =
 -- ---- the loop
 
 -- after the entries before entry j, from the tables and the answer bytes lent
-pub record EntriesBefore (n : ℕ) (bytes lent : List ℕ) (I : ItemTables) (j body : ℕ) (I' : ItemTables) (answers : List ℕ) : Type 0 where
-  pub carried : (T : Tables) → Formed n (withItems T I) → Carried n (decode (withItems T I)) bytes lent j body (withItems T I') answers
+pub record EntriesBefore (bytes lent : List ℕ) (before : Tables → Tables) (j body : ℕ) (after : Tables → Tables) (answers : List ℕ) : Type 0 where
+  pub carried : {n : ℕ} (T : Tables) → Formed n (before T) → Carried n (decode (before T)) bytes lent j body (after T) answers
 
-module _ {n : ℕ} {bytes lent : List ℕ} {I : ItemTables} (r : EntriesReady n bytes lent I) where
+module _ {bytes lent : List ℕ} {before : Tables → Tables} (r : EntriesReady bytes lent before) where
   -- before the first entry
-  pub entries-none : {body : ℕ} → body ≡ entryAt (entryCount bytes) → EntriesBefore n bytes lent I 0 body I lent
-  entries-none e = record { carried = λ T g. carried-none n (withItems T I) bytes lent g e }
+  pub entries-none : {body : ℕ} → body ≡ entryAt (entryCount bytes) → EntriesBefore bytes lent before 0 body before lent
+  entries-none e = record { carried = λ {n} T g. carried-none n (before T) bytes lent g e }
 
-  module _ {j body : ℕ} {I' : ItemTables} {answers : List ℕ} (k : EntriesBefore n bytes lent I j body I' answers) where
+  module _ {j body : ℕ} {after : Tables → Tables} {answers : List ℕ} (k : EntriesBefore bytes lent before j body after answers) where
+    -- what stands with the others that make the tables in form
+    now : Carried (r .formed .capacity) (decode (before (r .formed .others))) bytes lent j body (after (r .formed .others)) answers
+    now = k .carried (r .formed .others) (r .formed .formed)
+
     -- the tables are still in form
-    pub still-formed : PartFormed n I'
-    still-formed =
-        let f = r .formed in
-        let g = f .faultless in
-        record { whole = f .whole; faultless = carried-faultless (k .carried (f .whole) g) (facts g .sound) }
+    pub still-formed : Formed (r .formed .capacity) (after (r .formed .others))
+    still-formed = carried-faultless now (facts (r .formed .formed) .sound)
+
+    pub still-lengths : Lengths (r .formed .capacity) (after (r .formed .others))
+    still-lengths = facts still-formed .lengths
 
     -- the answer bytes are as many as were lent
     pub still-sized : length answers ≡ length lent
-    still-sized = carried-length (k .carried (r .formed .whole) (r .formed .faultless)) (omega (arith, r .sized, laid-out bytes (r .laid-out) .few))
+    still-sized = carried-length now (omega (arith, r .sized, laid-out bytes (r .laid-out) .few))
 
     -- there is one for entry j
     pub answer-within : j < entryCount bytes → j < length answers
     answer-within h = omega (arith, still-sized, r .sized, laid-out bytes (r .laid-out) .few)
 
     -- entry j may be carried out
-    pub entry-ready : j < entryCount bytes → EntryReady n bytes j body I'
+    pub entry-ready : j < entryCount bytes → EntryReady bytes j body after
     entry-ready h =
         record {
           laid-out = r .laid-out;
           within = h;
-          begins = k .carried (r .formed .whole) (r .formed .faultless) .body-at;
-          formed = still-formed;
+          begins = now .body-at;
+          formed = record { capacity = r .formed .capacity; others = r .formed .others; formed = still-formed };
         }
 
     -- one entry more
-    pub entries-next : {a : Answer} {number count : ℕ} {U : ItemTables} → j < entryCount bytes → EntryTaken n bytes j a I' U → number ≡ answerNumber a → count ≡ countOf bytes j → EntriesBefore n bytes lent I (j + 1) (body + 8 * count) U (set answers j number)
-    entries-next {a} {number} {count} {U} h e numbered counted =
+    pub entries-next : {a : Answer} {number count : ℕ} {next : Tables → Tables} → j < entryCount bytes → ItemAnswered after next (itemAt bytes j) a → number ≡ answerNumber a → count ≡ countOf bytes j → EntriesBefore bytes lent before (j + 1) (body + 8 * count) next (set answers j number)
+    entries-next {a} {number} {count} {next} h e numbered counted =
         record {
-          carried = λ T g.
+          carried = λ {n} T g.
               let c = k .carried T g in
               let s = facts g .sound in
-              let m = next-item (itemAt bytes j) (cabinet-sound n (decode (withItems T I)) bytes j s) (c .tables) (e .taken T (carried-faultless c s)) in
-              subst (λ (q : ℕ). Carried n (decode (withItems T I)) bytes lent (j + 1) (body + 8 * count) (withItems T U) (set answers j q)) (sym numbered)
+              let m = next-item (itemAt bytes j) (cabinet-sound n (decode (before T)) bytes j s) (c .tables) (e .answered T (carried-faultless c s)) in
+              subst (λ (q : ℕ). Carried n (decode (before T)) bytes lent (j + 1) (body + 8 * count) (next T) (set answers j q)) (sym numbered)
               (carried-next c h (omega (arith, r .sized, laid-out bytes (r .laid-out) .few)) counted refl (m .0) (m .1));
         }
 
     -- after the last entry
-    pub entries-taken : entryCount bytes ≤ j → EntriesTaken n bytes lent answers I I'
+    pub entries-taken : entryCount bytes ≤ j → EntriesTaken bytes lent answers before after
     entries-taken h =
-        record { taken = λ T g. package-done n (withItems T I) bytes lent (r .sized) g (r .laid-out) h (k .carried T g) }
+        record { taken = λ {n} T g. package-done n (before T) bytes lent (r .sized) g (r .laid-out) h (k .carried T g) }

@@ -1,26 +1,24 @@
 // Taking in a package: its entries carried out on tables in form, and the call.
 use answer_numbers::answer_number;
-use item_steps::take_item;
-use item_steps::withdraw_item;
 use model::Answer;
 use packages::count_at;
 use packages::entry_at;
 use packages::entry_count;
 use packages::kind_at;
-use packages::layout_fits;
+use packages::refusal_with;
 use packages::timestamp_at;
 use tables::form::fault;
+use taking::take_item;
+use withdrawing::withdraw_item;
 ghost use mathlib.Core.Path.{_≡_};
-ghost use Rattle.model.specs.Tables.{tables};
+ghost use Rattle.model.specs.Tables.{tables, withPackage};
+ghost use Rattle.model.specs.Package.{itemAt};
 ghost use Rattle.model.specs.Calls.{packageReply, takeInPackage};
-ghost use Rattle.package_intake.specs.Entries.{itemTables, EntryReady, EntryTaken, EntriesReady, EntriesTaken};
+ghost use Rattle.tables.specs.Parts.{ItemAnswered};
+ghost use Rattle.package_intake.specs.Entries.{EntryReady, EntriesReady, EntriesTaken};
 
 // Entry j of a package carried out, on tables in form. Its body begins at `body`.
 fn take_entry(
-    n: usize,
-    bytes: &[u8],
-    j: usize,
-    body: usize,
     held: &mut [u16],
     timestamps: &mut [u64],
     order: &mut [u16],
@@ -28,15 +26,29 @@ fn take_entry(
     withdrawn: &mut [u16],
     lengths: &mut [u16],
     programs: &mut [u8],
+    bytes: &[u8],
+    j: usize,
+    body: usize,
 ) -> Answer
-    requires { ⌜ EntryReady n (now bytes) j body (itemTables (now held) (now timestamps) (now order) (now status) (now withdrawn) (now lengths) (now programs)) ⌝ }
-    ensures { λ r. ⌜ EntryTaken n (now (bytes .entry)) j r (itemTables (now (held .entry)) (now (timestamps .entry)) (now (order .entry)) (now (status .entry)) (now (withdrawn .entry)) (now (lengths .entry)) (now (programs .entry))) (itemTables (now (held .exit)) (now (timestamps .exit)) (now (order .exit)) (now (status .exit)) (now (withdrawn .exit)) (now (lengths .exit)) (now (programs .exit))) ⌝ }
+    requires { ⌜
+        EntryReady (now bytes) j body
+        (λ T. withPackage T (now held) (now timestamps) (now order) (now status) (now withdrawn) (now lengths) (now programs))
+        ⌝ }
+    ensures { λ r. ⌜
+        ItemAnswered
+        (λ T.
+        withPackage T (now (held .entry)) (now (timestamps .entry)) (now (order .entry)) (now (status .entry))
+        (now (withdrawn .entry)) (now (lengths .entry)) (now (programs .entry)))
+        (λ T.
+        withPackage T (now (held .exit)) (now (timestamps .exit)) (now (order .exit)) (now (status .exit))
+        (now (withdrawn .exit)) (now (lengths .exit)) (now (programs .exit)))
+        (itemAt (now (bytes .entry)) j) r
+        ⌝ }
 {
     let t = timestamp_at(bytes, j);
     if kind_at(bytes, j) == 0 {
         let end = body + 8 * count_at(bytes, j);
         return take_item(
-            n,
             held,
             timestamps,
             order,
@@ -51,8 +63,6 @@ fn take_entry(
 
 // The entries of a package carried out in order, on tables in form, and the number of each one's answer stored. A refused entry stops nothing.
 fn take_entries(
-    n: usize,
-    bytes: &[u8],
     held: &mut [u16],
     timestamps: &mut [u64],
     order: &mut [u16],
@@ -60,10 +70,22 @@ fn take_entries(
     withdrawn: &mut [u16],
     lengths: &mut [u16],
     programs: &mut [u8],
+    bytes: &[u8],
     answers: &mut [u8],
 )
-    requires { ⌜ EntriesReady n (now bytes) (now answers) (itemTables (now held) (now timestamps) (now order) (now status) (now withdrawn) (now lengths) (now programs)) ⌝ }
-    ensures { λ _. ⌜ EntriesTaken n (now (bytes .entry)) (now (answers .entry)) (now (answers .exit)) (itemTables (now (held .entry)) (now (timestamps .entry)) (now (order .entry)) (now (status .entry)) (now (withdrawn .entry)) (now (lengths .entry)) (now (programs .entry))) (itemTables (now (held .exit)) (now (timestamps .exit)) (now (order .exit)) (now (status .exit)) (now (withdrawn .exit)) (now (lengths .exit)) (now (programs .exit))) ⌝ }
+    requires { ⌜
+        EntriesReady (now bytes) (now answers)
+        (λ T. withPackage T (now held) (now timestamps) (now order) (now status) (now withdrawn) (now lengths) (now programs))
+        ⌝ }
+    ensures { λ _. ⌜
+        EntriesTaken (now (bytes .entry)) (now (answers .entry)) (now (answers .exit))
+        (λ T.
+        withPackage T (now (held .entry)) (now (timestamps .entry)) (now (order .entry)) (now (status .entry))
+        (now (withdrawn .entry)) (now (lengths .entry)) (now (programs .entry)))
+        (λ T.
+        withPackage T (now (held .exit)) (now (timestamps .exit)) (now (order .exit)) (now (status .exit))
+        (now (withdrawn .exit)) (now (lengths .exit)) (now (programs .exit)))
+        ⌝ }
 {
     let count = entry_count(bytes);
     let mut body = entry_at(count);
@@ -71,10 +93,6 @@ fn take_entries(
     let mut left = 0 < count;
     while left {
         let answer = take_entry(
-            n,
-            bytes,
-            j,
-            body,
             held,
             timestamps,
             order,
@@ -82,6 +100,9 @@ fn take_entries(
             withdrawn,
             lengths,
             programs,
+            bytes,
+            j,
+            body,
         );
         let number = answer_number(answer);
         answers[j] = number;
@@ -111,12 +132,22 @@ pub fn take_in_package(
     bytes: &[u8],
     answers: &mut [u8],
 ) -> Answer
-    ensures { λ r. ⌜ packageReply r (tables (now (held .exit)) (now (timestamps .exit)) (now (order .exit)) (now (status .exit)) (now (withdrawn .exit)) (now (lengths .exit)) (now (programs .exit)) (now (reads .entry)) (now (writes .entry)) (now (sources .entry)) (now (seen .entry)) (now (targets .entry)) (now (written .entry)) (now (view .entry))) (now (answers .exit)) ≡ takeInPackage n (tables (now (held .entry)) (now (timestamps .entry)) (now (order .entry)) (now (status .entry)) (now (withdrawn .entry)) (now (lengths .entry)) (now (programs .entry)) (now (reads .entry)) (now (writes .entry)) (now (sources .entry)) (now (seen .entry)) (now (targets .entry)) (now (written .entry)) (now (view .entry))) (now (bytes .entry)) (now (answers .entry)) ⌝ }
+    ensures { λ r. ⌜
+        (let T =
+        tables (now (held .entry)) (now (timestamps .entry)) (now (order .entry)) (now (status .entry)) (now (withdrawn .entry))
+        (now (lengths .entry)) (now (programs .entry)) (now (reads .entry)) (now (writes .entry)) (now (sources .entry))
+        (now (seen .entry)) (now (targets .entry)) (now (written .entry)) (now (view .entry)) in
+        packageReply r
+        (withPackage T (now (held .exit)) (now (timestamps .exit)) (now (order .exit)) (now (status .exit))
+        (now (withdrawn .exit)) (now (lengths .exit)) (now (programs .exit)))
+        (now (answers .exit))
+        ≡ takeInPackage n T (now (bytes .entry)) (now (answers .entry)))
+        ⌝ }
 {
     if answers.len() != 512 {
         return Answer::Refused(1);
     }
-    let refusal = fault(
+    let of_tables = fault(
         n,
         held,
         timestamps,
@@ -133,15 +164,11 @@ pub fn take_in_package(
         written,
         view,
     );
+    let refusal = refusal_with(of_tables, bytes);
     if refusal != 0 {
         return Answer::Refused(refusal);
     }
-    if !layout_fits(bytes) {
-        return Answer::Refused(3);
-    }
     take_entries(
-        n,
-        bytes,
         held,
         timestamps,
         order,
@@ -149,6 +176,7 @@ pub fn take_in_package(
         withdrawn,
         lengths,
         programs,
+        bytes,
         answers,
     );
     Answer::Done

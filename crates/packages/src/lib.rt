@@ -5,6 +5,7 @@ ghost use Prim.Native.Nat.{_+_, _*_, _<_, _≤_};
 ghost use lib.Dec.{eqb};
 ghost use lib.ListN.{length};
 ghost use Rattle.machine.specs.Form.{allBelow};
+ghost use Rattle.packages.specs.Refusal.{refusalWith};
 ghost use Rattle.model.specs.Package.{numberAt, entryCount, entryAt, stampOf, kindOf, countOf, entryFits, countBefore, layoutFits};
 
 // The number in size bytes at i, low byte first.
@@ -93,7 +94,7 @@ fn bodies_fit(bytes: &[u8], count: usize) -> bool
 }
 
 // Whether the bytes are laid out as a package: not refusal 3.
-pub fn layout_fits(bytes: &[u8]) -> bool
+fn layout_fits(bytes: &[u8]) -> bool
     ensures { λ r. ⌜ r ≡ layoutFits (now (bytes .entry)) ⌝ }
 {
     let length = bytes.len();
@@ -108,4 +109,17 @@ pub fn layout_fits(bytes: &[u8]) -> bool
         return false;
     }
     bodies_fit(bytes, count)
+}
+
+// The refusal of a package, where that of the tables themselves, 1 or 2, is known: it comes first, then 3. 0 is none.
+pub fn refusal_with(fault: u8, bytes: &[u8]) -> u8
+    ensures { λ r. ⌜ r ≡ refusalWith fault (now (bytes .entry)) ⌝ }
+{
+    if fault != 0 {
+        return fault;
+    }
+    if !layout_fits(bytes) {
+        return 3;
+    }
+    0
 }

@@ -50,7 +50,7 @@ previousIn T s k = previousWrite (T .order) (T .writes) (T .targets) (T .written
 module _ {n : ℕ} {T : Tables} (g : Formed n T) where
   -- ---- what the searches require
 
-  placed : (k limit : ℕ) → k ≤ heldCount T → limit ≡ n → PlacesWithin k (T .order) limit
+  pub placed : (k limit : ℕ) → k ≤ heldCount T → limit ≡ n → PlacesWithin k (T .order) limit
   placed k limit h m =
       record { long = omega (arith, facts g .lengths .order, facts g .form .small); below = λ j l. omega (arith, facts g .form .places j (omega arith), facts g .form .small) }
 
@@ -143,6 +143,10 @@ module _ {n : ℕ} {T : Tables} (g : Formed n T) where
 
     pub position-some : (k : ℕ) → positionIn T t ≡ some k → (k < heldCount T) × (find t (historyIn T) ≡ some (getD (decode T .changes) (getD (decode T .order) k 0) blank))
     position-some k p = subst Finds p finds
+
+    -- the change, by its place in the tables
+    pub position-change : (k : ℕ) → positionIn T t ≡ some k → find t (historyIn T) ≡ some (getD (decode T .changes) (getD (T .order) k 0) blank)
+    position-change k p = position-some k p .1 ∙ ap (λ (i : ℕ). some (getD (decode T .changes) i blank)) (sym (place-of k))
 
   -- ---- settings
 

@@ -21,7 +21,7 @@ pub record Split (t : ℕ) (h : History) (k : ℕ) : Type 0 where
 
 -- ---- rising timestamps
 
-rising-above : (b : ℕ) (h : History) (k : ℕ) → Rising b h → k < length h → b < timestamp (getD h k blank)
+pub rising-above : (b : ℕ) (h : History) (k : ℕ) → Rising b h → k < length h → b < timestamp (getD h k blank)
 rising-above b [] k r l = absurd (omega arith)
 rising-above b (c ∷ h) zero r l = r .0
 rising-above b (c ∷ h) (suc k) r l = omega (arith, r .0, rising-above (timestamp c) h k (r .2) (omega arith))

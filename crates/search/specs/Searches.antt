@@ -1,6 +1,6 @@
 -- What the searches give, as functions of the lent lists.
 use mathlib.Core.Path.{_≡_}
-use mathlib.Core.Bool.{cond, _&&_}
+use mathlib.Core.Bool.{Bool, cond, _&&_}
 use mathlib.Core.List.{List}
 use mathlib.Core.Option.{Option, none, some}
 use Prim.Native.Nat.{ℕ, zero, suc, _*_, _<_, _≤_}
@@ -32,11 +32,15 @@ unfoldable pub rankOf : List ℕ → List ℕ → ℕ → ℕ → ℕ
 rankOf order timestamps t zero = 0
 rankOf order timestamps t (suc k) = cond (ltb (timestampOf order timestamps k) t) (suc k) (rankOf order timestamps t k)
 
+-- is the change at position k of the first count of them stamped t
+abbrev pub stampedAt : List ℕ → List ℕ → ℕ → ℕ → ℕ → Bool
+stampedAt order timestamps t count k = ltb k count && eqb (timestampOf order timestamps k) t
+
 -- the position of timestamp t among the first count of them
 abbrev pub positionOf : List ℕ → List ℕ → ℕ → ℕ → Option ℕ
 positionOf order timestamps t count =
     let k = rankOf order timestamps t count in
-    cond (ltb k count && eqb (timestampOf order timestamps k) t) (some k) none
+    cond (stampedAt order timestamps t count k) (some k) none
 
 abbrev pub foundOf : Option ℕ → Found
 foundOf none = found.Nothing

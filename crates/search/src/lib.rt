@@ -1,9 +1,10 @@
-// Searches in the tables: a timestamp in the order list, and the write of a setting below a position of it.
+// Timestamps, and searches in the tables: a timestamp in the order list, and the write of a setting below a position of it.
 ghost use mathlib.Core.Path.{_≡_};
 ghost use Prim.Native.Nat.{_+_, _*_, _<_, _≤_};
 ghost use lib.ListN.{length, drop};
 ghost use Rattle.machine.specs.Settings.{lookup, entries};
-ghost use Rattle.search.specs.Searches.{rankOf, positionOf, foundOf, writtenOf, previousWrite, PlacesWithin, WriteLists};
+ghost use Rattle.model.specs.History.{isTimestamp};
+ghost use Rattle.search.specs.Searches.{rankOf, stampedAt, positionOf, foundOf, writtenOf, previousWrite, PlacesWithin, WriteLists};
 
 // The position in the order list of a timestamp.
 pub enum Found {
@@ -15,6 +16,13 @@ pub enum Found {
 pub enum Written {
     Value(i32),
     Nothing,
+}
+
+// Whether a timestamp is from 1 to 2^64 - 2: not refusal 4.
+pub fn is_timestamp(t: u64) -> bool
+    ensures { λ r. ⌜ r ≡ isTimestamp t ⌝ }
+{
+    (0 < t) & (t < 18446744073709551615)
 }
 
 // How many of the first count changes of the order list are stamped below t, counted down from the highest.
@@ -33,18 +41,26 @@ pub fn rank(t: u64, count: usize, order: &[u16], timestamps: &[u64]) -> usize
     0
 }
 
+// Whether the change at position k of the first count of the order list is of timestamp t.
+pub fn stamped_at(t: u64, k: usize, count: usize, order: &[u16], timestamps: &[u64]) -> bool
+    requires { ⌜ PlacesWithin count (now order) (length (now timestamps)) ⌝ }
+    ensures { λ r. ⌜ r ≡ stampedAt (now (order .entry)) (now (timestamps .entry)) t count k ⌝ }
+{
+    if count <= k {
+        return false;
+    }
+    let place = order[k] as usize;
+    timestamps[place] == t
+}
+
 // The position of the change of timestamp t among the first count of the order list.
 pub fn position(t: u64, count: usize, order: &[u16], timestamps: &[u64]) -> Found
     requires { ⌜ PlacesWithin count (now order) (length (now timestamps)) ⌝ }
     ensures { λ r. ⌜ r ≡ foundOf (positionOf (now (order .entry)) (now (timestamps .entry)) t count) ⌝ }
 {
     let k = rank(t, count, order, timestamps);
-    if k < count {
-        let place = order[k] as usize;
-        let stamp = timestamps[place];
-        if stamp == t {
-            return Found::At(k);
-        }
+    if stamped_at(t, k, count, order, timestamps) {
+        return Found::At(k);
     }
     Found::Nothing
 }

@@ -9,7 +9,7 @@ use Rattle.model.specs.Form.{lengthsFit, inForm, Formed}
 use Rattle.model.specs.Refusals.{Test, firstOf, wrongLengths, notInForm, faultOf}
 
 -- a refusal by the first of some tests is that of all of them
-first-refusal : (tests rest : List Test) {r : ℕ} → r ≡ firstOf tests → (r ≡ 0 → ⊥) → r ≡ firstOf (tests ++ rest)
+pub first-refusal : (tests rest : List Test) {r : ℕ} → r ≡ firstOf tests → (r ≡ 0 → ⊥) → r ≡ firstOf (tests ++ rest)
 first-refusal [] rest e n = absurd (n e)
 first-refusal (t ∷ tests) rest {r} e n = go (t .applies) (λ p. first-refusal tests rest p n) e
   where

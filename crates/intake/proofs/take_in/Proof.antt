@@ -2,9 +2,12 @@
 use mathlib.Core.Path.{refl}
 use Rattle.model.specs.Tables.{Tables, tables}
 use Rattle.model.specs.Form.{Formed}
+use Rattle.model.specs.Package.{taking}
+use Rattle.model.specs.Calls.{takeIn}
 use Rattle.tables.proofs.Faults.{faultless}
-use Rattle.item_steps.proofs.Items.{take-item-ready}
-use Rattle.intake.proofs.Outcomes.{take-fault, take-reply}
+use Rattle.tables.proofs.Kept.{held-kept, timestamps-kept, order-kept}
+use Rattle.taking.proofs.Kept.{lengths-kept, programs-kept}
+use Rattle.intake.proofs.Outcomes.{item-fault}
 use Rattle.intake.proofs.take_in.Statement.{statement}
 use Rattle.intake.proofs.take_in.Tie as tie
 
@@ -13,25 +16,39 @@ lent s =
     let a = s .args in
     tables (a .held .now) (a .timestamps .now) (a .order .now) (a .status .now) (a .withdrawn .now) (a .lengths .now) (a .programs .now) (a .reads .now) (a .writes .now) (a .sources .now) (a .seen .now) (a .targets .now) (a .written .now) (a .view .now)
 
+-- ---- the places of the code, from each the one before
+
 abbrev entry : tie.After-fault → tie.Start
 entry c = c .before .before .before .before .before .before .before .before .before .before .before .before .before .before .before .before .before .before
+
+abbrev asked : tie.After-take-item-arg5 → tie.Else1
+asked c = c .before .before .before .before .before
+
+abbrev called : tie.After-slice-known10 → tie.After-take-item
+called c = c .before .before .before .before .before .before .before .before .before .before
+
+-- ---- needs
 
 fits : (c : tie.Else1) → let s = entry (c .before) in Formed (s .args .n) (lent s)
 fits c = faultless _ (lent (entry (c .before))) (c .before .fault .ensures) (c .if1 .left)
 
 returns : tie.Need-returns
-returns c = take-fault _ (lent (entry (c .before))) _ _ (c .before .fault .ensures) (c .if1 .taken)
+unfolding takeIn
+returns c =
+    let s = entry (c .before) in
+    item-fault _ (lent s) (taking (s .args .timestamp) (s .args .program .now)) (c .before .fault .ensures) (c .if1 .taken)
 
 take-item-requires : tie.Need-take-item-requires
 take-item-requires c κs =
-    let u = c .before .before .before .before .before in
-    take-item-ready _ (lent (entry (u .before))) (fits u) _ _
+    let u = asked c in
+    record { capacity = entry (u .before) .args .n; others = lent (entry (u .before)); formed = fits u }
 
 returns-2 : tie.Need-returns-2
+unfolding takeIn
 returns-2 c =
-    let i = c .before .before .before .before .before .before .before .before .before .before in
-    let u = i .before .before .before .before .before .before in
-    take-reply _ (lent (entry (u .before))) _ _ (fits u) (i .take-item .ensures)
+    let i = called c in
+    let u = asked (i .before) in
+    i .take-item .ensures .answered (lent (entry (u .before))) (fits u)
 
 pub take-in-spec : {M : Type 1} → statement M
 take-in-spec =
@@ -45,9 +62,9 @@ take-in-spec =
     (λ c. refl)
     returns
     take-item-requires
-    (λ c. c .before .before .before .before .before .before .before .before .before .before .take-item .kept .1 .0)
-    (λ c. c .before .before .before .before .before .before .before .before .before .before .take-item .kept .1 .1 .0)
-    (λ c. c .before .before .before .before .before .before .before .before .before .before .take-item .kept .1 .1 .1 .0)
-    (λ c. c .before .before .before .before .before .before .before .before .before .before .take-item .kept .1 .1 .1 .1 .0)
-    (λ c. c .before .before .before .before .before .before .before .before .before .before .take-item .kept .1 .1 .1 .1 .1 .0)
+    (λ c. held-kept (called c .take-item .kept))
+    (λ c. timestamps-kept (called c .take-item .kept))
+    (λ c. order-kept (called c .take-item .kept))
+    (λ c. lengths-kept (called c .take-item .kept))
+    (λ c. programs-kept (called c .take-item .kept))
     returns-2)

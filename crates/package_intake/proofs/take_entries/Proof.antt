@@ -1,36 +1,57 @@
--- `package_intake::take_entries` meets its contract: the loop passes the entries in order. Assumes nothing.
+-- `package_intake::take_entries` meets its contract: the loop has carried out the entries before its own. Assumes nothing.
 use mathlib.Core.Path.{_≡_, refl, sym, ap, _∙_}
 use Prim.Native.Nat.{_-_, _<_}
 use native.Mathlib.Omega.{arith}
 use borrow.Author.Tests.{ltb-true, ltb-false}
 use lib.Dec.{ltb}
+use Rattle.model.specs.Tables.{Tables, withPackage}
 use Rattle.model.specs.Package.{entryCount, entryAt}
+use Rattle.model.proofs.Tests.{Lengths}
+use Rattle.model.proofs.Form.{facts}
 use Rattle.packages.proofs.Entries.{laid-out}
-use Rattle.package_intake.specs.Entries.{ItemTables, itemTables, PartFormed, EntryReady}
-use Rattle.package_intake.proofs.Entries.{formed-lengths, bytes-short, entry-inside, body-inside, EntriesBefore, entries-none, still-formed, still-sized, answer-within, entry-ready, entries-next, entries-taken}
+use Rattle.package_intake.specs.Entries.{EntryReady}
+use Rattle.package_intake.proofs.Entries.{bytes-short, entry-inside, body-inside, EntriesBefore, entries-none, still-lengths, still-sized, answer-within, entry-ready, entries-next, entries-taken}
 use Rattle.package_intake.proofs.take_entries.Statement.{statement}
 use Rattle.package_intake.proofs.take_entries.Tie as tie
 
 abbrev Inv-loop : tie.InvT-loop
-Inv-loop n bytes held₀ timestamps₀ order₀ status₀ withdrawn₀ lengths₀ programs₀ answers₀ count body₀ j₀ left₀ held timestamps order status withdrawn lengths programs answers body j left =
-    (left ≡ ltb j count) × EntriesBefore n bytes answers₀ (itemTables held₀ timestamps₀ order₀ status₀ withdrawn₀ lengths₀ programs₀) j body (itemTables held timestamps order status withdrawn lengths programs) answers
+Inv-loop held₀ timestamps₀ order₀ status₀ withdrawn₀ lengths₀ programs₀ bytes answers₀ count body₀ j₀ left₀ held timestamps order status withdrawn lengths programs answers body j left =
+    (left ≡ ltb j count) × EntriesBefore bytes answers₀ (λ T. withPackage T held₀ timestamps₀ order₀ status₀ withdrawn₀ lengths₀ programs₀) j body (λ T. withPackage T held timestamps order status withdrawn lengths programs) answers
 
 abbrev μ-loop : tie.MeasureT-loop
-μ-loop n bytes held₀ timestamps₀ order₀ status₀ withdrawn₀ lengths₀ programs₀ answers₀ count body₀ j₀ left₀ held timestamps order status withdrawn lengths programs answers body j left =
+μ-loop held₀ timestamps₀ order₀ status₀ withdrawn₀ lengths₀ programs₀ bytes answers₀ count body₀ j₀ left₀ held timestamps order status withdrawn lengths programs answers body j left =
     count - j
 
--- the entry, from the first call and from the loop
+-- ---- the places of the code, from each the one before
+
 abbrev entry : tie.After-slice-known8 Inv-loop μ-loop → tie.Start Inv-loop μ-loop
 entry c = c .before .before .before .before .before .before .before .before .before
 
 abbrev start : tie.At-loop Inv-loop μ-loop → tie.Start Inv-loop μ-loop
 start c = entry (c .before .before .before)
 
--- the tables at the loop's head
-abbrev current : tie.At-loop Inv-loop μ-loop → ItemTables
-current c =
+abbrev asked : tie.After-take-entry-arg7 Inv-loop μ-loop → tie.In-loop Inv-loop μ-loop
+asked c = c .before .before .before .before .before .before .before
+
+abbrev taken : tie.After-slice-known15 Inv-loop μ-loop → tie.After-take-entry Inv-loop μ-loop
+taken c = c .before .before .before .before .before .before .before .before .before .before .before .before .before .before
+
+abbrev turn : tie.After-answer-number Inv-loop μ-loop → tie.In-loop Inv-loop μ-loop
+turn c = asked (taken (c .before) .before)
+
+-- ---- the tables at the entry and at the loop's head, with the others
+
+abbrev lent : tie.Start Inv-loop μ-loop → Tables → Tables
+lent s T =
+    let a = s .args in
+    withPackage T (a .held .now) (a .timestamps .now) (a .order .now) (a .status .now) (a .withdrawn .now) (a .lengths .now) (a .programs .now)
+
+abbrev current : tie.At-loop Inv-loop μ-loop → Tables → Tables
+current c T =
     let l = c .loop in
-    itemTables (l .held) (l .timestamps) (l .order) (l .status) (l .withdrawn) (l .lengths) (l .programs)
+    withPackage T (l .held) (l .timestamps) (l .order) (l .status) (l .withdrawn) (l .lengths) (l .programs)
+
+-- ---- what the loop knows
 
 -- there is an entry j
 more : (c : tie.In-loop Inv-loop μ-loop) → c .before .loop .j < entryCount (start (c .before) .args .bytes .now)
@@ -38,12 +59,10 @@ more c =
     let l = c .before in
     omega (arith, ltb-true (l .loop .j) _ (sym (l .loop .inv .0) ∙ c .loop-test .taken), l .before .before .entry-count .ensures)
 
-ready : (c : tie.In-loop Inv-loop μ-loop) → let s = start (c .before) in EntryReady (s .args .n) (s .args .bytes .now) (c .before .loop .j) (c .before .loop .body) (current (c .before))
+ready : (c : tie.In-loop Inv-loop μ-loop) → let l = c .before .loop in EntryReady (start (c .before) .args .bytes .now) (l .j) (l .body) (current (c .before))
 ready c = entry-ready (start (c .before) .pre) (c .before .loop .inv .1) (more c)
 
--- the turn, from where its answer is numbered
-abbrev turn : tie.After-answer-number Inv-loop μ-loop → tie.In-loop Inv-loop μ-loop
-turn c = c .before .before .before .before .before .before .before .before .before .before .before .before .before .before .before .before .before .before .before .before .before .before .before
+-- ---- needs
 
 entry-count-requires : tie.Need-entry-count-requires Inv-loop μ-loop
 entry-count-requires c κs = laid-out _ (entry c .pre .laid-out) .some-bytes
@@ -55,17 +74,18 @@ loop-holds : tie.Need-loop-holds Inv-loop μ-loop
 loop-holds c =
     (refl, entries-none (entry (c .before .before) .pre) (c .entry-at .ensures ∙ ap entryAt (c .before .entry-count .ensures)))
 
-take-entry-requires : tie.Need-take-entry-requires Inv-loop μ-loop
-take-entry-requires c κs = ready (c .before .before .before .before .before .before .before)
-
 loop-again : tie.Need-loop-again Inv-loop μ-loop
 loop-again c =
-    let i = turn (c .before) in
-    (refl, entries-next (start (i .before) .pre) (i .before .loop .inv .1) (more i) (c .before .before .before .before .before .before .before .before .before .before .before .before .before .before .before .before .take-entry .ensures) (c .before .answer-number .ensures) (c .count-at .ensures))
+    let n = c .before in
+    let i = turn n in
+    (refl, entries-next (start (i .before) .pre) (i .before .loop .inv .1) (more i) (taken (n .before) .take-entry .ensures) (n .answer-number .ensures) (c .count-at .ensures))
 
--- the tables are in form at the end too
-formed : (c : tie.After-loop Inv-loop μ-loop) → PartFormed (start (c .before) .args .n) (current (c .before))
-formed c = still-formed (start (c .before) .pre) (c .before .loop .inv .1)
+-- the lengths at the entry and at the end
+begun : (s : tie.Start Inv-loop μ-loop) → Lengths (s .pre .formed .capacity) (lent s (s .pre .formed .others))
+begun s = facts (s .pre .formed .formed) .lengths
+
+ended : (c : tie.At-loop Inv-loop μ-loop) → Lengths (start c .pre .formed .capacity) (current c (start c .pre .formed .others))
+ended c = still-lengths (start c .pre) (c .loop .inv .1)
 
 returns : tie.Need-returns Inv-loop μ-loop
 returns c =
@@ -81,7 +101,7 @@ take-entries-spec =
     entry-count-requires
     entry-at-requires
     loop-holds
-    take-entry-requires
+    (λ c κs. ready (asked c))
     (λ c κs. tt)
     (λ c. answer-within (start (turn c .before) .pre) (turn c .before .loop .inv .1) (more (turn c)))
     (λ c κs. entry-inside (ready (turn c)))
@@ -90,12 +110,12 @@ take-entries-spec =
     (λ c. omega (arith, entry-inside (ready (turn (c .before))), bytes-short (ready (turn (c .before)))))
     (λ c. omega (arith, more (turn (c .before)), turn (c .before) .before .before .before .entry-count .ensures))
     loop-again
-    (λ c. formed-lengths (formed c) .held ∙ sym (formed-lengths (start (c .before) .pre .formed) .held))
-    (λ c. formed-lengths (formed c) .timestamps ∙ sym (formed-lengths (start (c .before) .pre .formed) .timestamps))
-    (λ c. formed-lengths (formed c) .order ∙ sym (formed-lengths (start (c .before) .pre .formed) .order))
-    (λ c. formed-lengths (formed c) .status ∙ sym (formed-lengths (start (c .before) .pre .formed) .status))
-    (λ c. formed-lengths (formed c) .withdrawn ∙ sym (formed-lengths (start (c .before) .pre .formed) .withdrawn))
-    (λ c. formed-lengths (formed c) .lengths ∙ sym (formed-lengths (start (c .before) .pre .formed) .lengths))
-    (λ c. formed-lengths (formed c) .programs ∙ sym (formed-lengths (start (c .before) .pre .formed) .programs))
+    (λ c. ended (c .before) .held ∙ sym (begun (start (c .before)) .held))
+    (λ c. ended (c .before) .timestamps ∙ sym (begun (start (c .before)) .timestamps))
+    (λ c. ended (c .before) .order ∙ sym (begun (start (c .before)) .order))
+    (λ c. ended (c .before) .status ∙ sym (begun (start (c .before)) .status))
+    (λ c. ended (c .before) .withdrawn ∙ sym (begun (start (c .before)) .withdrawn))
+    (λ c. ended (c .before) .lengths ∙ sym (begun (start (c .before)) .lengths))
+    (λ c. ended (c .before) .programs ∙ sym (begun (start (c .before)) .programs))
     (λ c. still-sized (start (c .before) .pre) (c .before .loop .inv .1))
     returns)

@@ -4,49 +4,75 @@ use Prim.Native.Nat.{_+_, _*_, _≤_}
 use native.Mathlib.Omega.{arith}
 use borrow.Author.Needs.{needs}
 use lib.ListN.{length}
-use Rattle.package_intake.specs.Entries.{ItemTables, itemTables, withItems}
-use Rattle.item_steps.proofs.Items.{take-item-ready, withdraw-item-ready}
-use Rattle.package_intake.proofs.Entries.{bytes-short, entry-inside, body-inside, entry-taken, entry-withdrawn}
+use Rattle.model.specs.Tables.{Tables, withPackage}
+use Rattle.model.specs.Package.{itemAt}
+use Rattle.tables.proofs.Kept.{held-kept, timestamps-kept, order-kept, status-kept, withdrawn-kept}
+use Rattle.taking.proofs.Kept.{lengths-kept, programs-kept}
+use Rattle.packages.proofs.Items.{item-taking, item-withdrawing}
+use Rattle.package_intake.proofs.Entries.{bytes-short, entry-inside, body-inside, formed-on, answered-on}
 use Rattle.package_intake.proofs.take_entry.Statement.{statement}
 use Rattle.package_intake.proofs.take_entry.Tie as tie
 
-abbrev lent : tie.Start → ItemTables
-lent s =
+-- the tables at entry, with the others
+abbrev lent : tie.Start → Tables → Tables
+lent s T =
     let a = s .args in
-    itemTables (a .held .now) (a .timestamps .now) (a .order .now) (a .status .now) (a .withdrawn .now) (a .lengths .now) (a .programs .now)
+    withPackage T (a .held .now) (a .timestamps .now) (a .order .now) (a .status .now) (a .withdrawn .now) (a .lengths .now) (a .programs .now)
 
--- the entry, from the first call on
-abbrev entry : tie.After-slice-known7 → tie.Start
+-- ---- the places of the code, from each the one before
+
+abbrev entry : tie.After-shared-slice-known → tie.Start
 entry c = c .before .before .before .before .before .before .before .before
 
+abbrev start : tie.After-kind-at → tie.Start
+start c = entry (c .before .before)
+
+abbrev counted : tie.After-take-item-arg5 → tie.After-count-at
+counted c = c .before .before .before .before .before
+
+abbrev taken : tie.After-slice-known12 → tie.After-take-item
+taken c = c .before .before .before .before .before .before .before .before .before .before
+
+abbrev other : tie.After-withdraw-item-arg5 → tie.Else1
+other c = c .before .before .before .before .before
+
+abbrev withdrew : tie.After-slice-known14 → tie.After-withdraw-item
+withdrew c = c .before .before .before .before
+
+-- ---- needs
+
 -- the body ends within the bytes, which are few
-ends : (c : tie.After-count-at) → let a = entry (c .before .before .before .before) .args in (a .body + 8 * c .count-at .result ≤ length (a .bytes .now)) × (length (a .bytes .now) ≤ 65535)
+ends : (c : tie.After-count-at) → let a = start (c .before .before) .args in (a .body + 8 * c .count-at .result ≤ length (a .bytes .now)) × (length (a .bytes .now) ≤ 65535)
 ends c =
-    let r = entry (c .before .before .before .before) .pre in
+    let r = start (c .before .before) .pre in
     (body-inside r (c .count-at .ensures), bytes-short r)
 
 take-item-requires : tie.Need-take-item-requires
 take-item-requires c κs =
-    let s = entry (c .before .before .before .before .before .before .before .before .before .before) in
-    take-item-ready _ (withItems (s .pre .formed .whole) (lent s)) (s .pre .formed .faultless) _ _
+    let s = start (counted (c .before) .before .before) in
+    formed-on (lent s) (s .pre .formed)
 
 returns : tie.Need-returns
 returns c =
-    let i = c .before .before .before .before .before .before .before .before .before .before in
-    let k = i .before .before .before .before .before .before .before in
+    let i = taken c in
+    let k = counted (i .before .before) in
     let t = k .before in
-    entry-taken {I = lent (entry (t .before .before .before))} (t .before .before .timestamp-at .ensures) (sym (t .before .kind-at .ensures) ∙ t .if1 .taken) (entry (t .before .before .before) .pre .begins) (k .count-at .ensures) (i .take-item .ensures)
+    let s = start (t .before) in
+    answered-on (lent s) (itemAt (s .args .bytes .now) (s .args .j)) (i .take-item .ensures)
+    (item-taking (s .args .bytes .now) (s .args .j) (t .before .before .timestamp-at .ensures) (sym (t .before .kind-at .ensures) ∙ t .if1 .taken) (s .pre .begins) (k .count-at .ensures))
 
 withdraw-item-requires : tie.Need-withdraw-item-requires
 withdraw-item-requires c κs =
-    let s = entry (c .before .before .before .before .before .before .before .before) in
-    withdraw-item-ready _ (withItems (s .pre .formed .whole) (lent s)) (s .pre .formed .faultless) _
+    let s = start (other c .before) in
+    formed-on (lent s) (s .pre .formed)
 
 returns-2 : tie.Need-returns-2
 returns-2 c =
-    let i = c .before .before .before .before in
-    let e = i .before .before .before .before .before .before in
-    entry-withdrawn {I = lent (entry (e .before .before .before))} (e .before .before .timestamp-at .ensures) (λ z. e .if1 .left (e .before .kind-at .ensures ∙ z)) (i .withdraw-item .ensures)
+    let i = withdrew c in
+    let e = other (i .before) in
+    let s = start (e .before) in
+    answered-on (lent s) (itemAt (s .args .bytes .now) (s .args .j)) (i .withdraw-item .ensures)
+    (item-withdrawing (s .args .bytes .now) (s .args .j) (e .before .before .timestamp-at .ensures) (λ z. e .if1 .left (e .before .kind-at .ensures ∙ z)))
 
 pub take-entry-spec : {M : Type 1} → statement M
 take-entry-spec =
@@ -54,23 +80,23 @@ take-entry-spec =
     (tie.spec
     (λ c κs. entry-inside (entry c .pre))
     (λ c κs. entry-inside (entry (c .before) .pre))
-    (λ c κs. entry-inside (entry (c .before .before .before) .pre))
+    (λ c κs. entry-inside (start (c .before) .pre))
     (λ c. omega (arith, ends c .0, ends c .1))
     (λ c. omega (arith, ends c .0, ends c .1))
     (λ c. search needs)
     (λ c. search needs)
-    (λ c. omega (arith, ends (c .before .before .before .before .before) .0))
+    (λ c. omega (arith, ends (counted c) .0))
     take-item-requires
-    (λ c. c .before .before .before .before .before .before .before .before .before .before .take-item .kept .1 .0)
-    (λ c. c .before .before .before .before .before .before .before .before .before .before .take-item .kept .1 .1 .0)
-    (λ c. c .before .before .before .before .before .before .before .before .before .before .take-item .kept .1 .1 .1 .0)
-    (λ c. c .before .before .before .before .before .before .before .before .before .before .take-item .kept .1 .1 .1 .1 .0)
-    (λ c. c .before .before .before .before .before .before .before .before .before .before .take-item .kept .1 .1 .1 .1 .1 .0)
+    (λ c. held-kept (taken c .take-item .kept))
+    (λ c. timestamps-kept (taken c .take-item .kept))
+    (λ c. order-kept (taken c .take-item .kept))
+    (λ c. lengths-kept (taken c .take-item .kept))
+    (λ c. programs-kept (taken c .take-item .kept))
     returns
     withdraw-item-requires
     (λ c. refl)
     (λ c. refl)
     (λ c. refl)
-    (λ c. c .before .before .before .before .withdraw-item .kept .1 .1 .1 .0)
-    (λ c. c .before .before .before .before .withdraw-item .kept .1 .1 .1 .1 .0)
+    (λ c. status-kept (withdrew c .withdraw-item .kept))
+    (λ c. withdrawn-kept (withdrew c .withdraw-item .kept))
     returns-2)

@@ -1,12 +1,14 @@
 -- `package_intake::take_in_package` meets its contract: an outcome for each return. Assumes nothing.
-use mathlib.Core.Path.{_≡_, refl, sym, _∙_}
+use mathlib.Core.Path.{_≡_, refl, ap, _∙_}
 use mathlib.Core.Bool.{true}
-use borrow.Author.Tests.{not-true, not-false}
+use Prim.Native.Nat.{ℕ}
 use Rattle.model.specs.Tables.{Tables, tables}
-use Rattle.model.specs.Package.{layoutFits}
 use Rattle.model.specs.Form.{Formed}
+use Rattle.model.specs.Package.{layoutFits}
 use Rattle.tables.proofs.Faults.{faultless}
-use Rattle.packages.proofs.Outcomes.{package-wrong-length, package-fault, package-not-laid-out}
+use Rattle.tables.proofs.Kept.{behind, held-kept, timestamps-kept, order-kept, status-kept, withdrawn-kept, lengths-kept, programs-kept}
+use Rattle.packages.specs.Refusal.{refusalWith}
+use Rattle.packages.proofs.Outcomes.{none-refused, package-wrong-length, package-refused}
 use Rattle.package_intake.proofs.take_in_package.Statement.{statement}
 use Rattle.package_intake.proofs.take_in_package.Tie as tie
 
@@ -15,52 +17,62 @@ lent s =
     let a = s .args in
     tables (a .held .now) (a .timestamps .now) (a .order .now) (a .status .now) (a .withdrawn .now) (a .lengths .now) (a .programs .now) (a .reads .now) (a .writes .now) (a .sources .now) (a .seen .now) (a .targets .now) (a .written .now) (a .view .now)
 
--- the entry, from the test of the answer bytes on
+-- ---- the places of the code, from each the one before
+
 abbrev entry : tie.After-slice-known8 → tie.Start
 entry c = c .before .before .before .before .before .before .before .before .before .before .before .before .before
 
+abbrev sized : tie.After-fault → tie.Else1
+sized c = c .before .before .before .before .before .before .before .before
+
 abbrev start : tie.After-fault → tie.Start
-start c = entry (c .before .before .before .before .before .before .before .before .before)
+start c = entry (sized c .before)
 
--- what the tests tell
-fits : (c : tie.Else2) → let s = start (c .before) in Formed (s .args .n) (lent s)
-fits c = faultless _ (lent (start (c .before))) (c .before .fault .ensures) (c .if2 .left)
+abbrev accepted : tie.After-take-entries-arg8 → tie.Else2
+accepted c = c .before .before .before .before .before .before .before .before
 
-laid : (c : tie.Else3) → layoutFits (start (c .before .before .before) .args .bytes .now) ≡ true
-laid c = sym (c .before .layout-fits .ensures) ∙ not-false _ (c .if3 .left)
+abbrev taken : tie.After-slice-known16 → tie.After-take-entries
+taken c = c .before .before .before .before .before .before .before .before .before .before .before .before .before .before .before .before
+
+-- ---- needs
+
+-- no refusal
+passed : (c : tie.Else2) → let s = start (c .before .before) in Formed (s .args .n) (lent s) × (layoutFits (s .args .bytes .now) ≡ true)
+passed c =
+    let f = c .before .before in
+    let k = none-refused _ _ (c .before .refusal-with .ensures) (c .if2 .left) in
+    (faultless _ (lent (start f)) (f .fault .ensures) (k .0), k .1)
 
 returns : tie.Need-returns
 returns c = package-wrong-length _ (lent (entry (c .before))) _ _ (c .if1 .taken)
 
 returns-2 : tie.Need-returns-2
 returns-2 c =
-    let e = c .before .before .before .before .before .before .before .before .before in
-    package-fault _ (lent (entry (e .before))) _ _ (e .if1 .left) (c .before .fault .ensures) (c .if2 .taken)
-
-returns-3 : tie.Need-returns-3
-returns-3 c =
-    let u = c .before .before in
-    let e = u .before .before .before .before .before .before .before .before .before in
-    package-not-laid-out _ (lent (entry (e .before))) _ _ (e .if1 .left) (fits u) (sym (c .before .layout-fits .ensures) ∙ not-true _ (c .if3 .taken))
+    let f = c .before .before in
+    package-refused _ (lent (start f)) _ _ (sized f .if1 .left) (c .before .refusal-with .ensures ∙ ap (λ (r : ℕ). refusalWith r (start f .args .bytes .now)) (f .fault .ensures)) (c .if2 .taken)
 
 take-entries-requires : tie.Need-take-entries-requires
 take-entries-requires c κs =
-    let q = c .before .before .before .before .before .before .before .before in
-    let u = q .before .before in
-    let e = u .before .before .before .before .before .before .before .before .before in
-    record { laid-out = laid q; sized = e .if1 .left; formed = record { whole = lent (entry (e .before)); faultless = fits u } }
+    let e = accepted c in
+    let f = e .before .before in
+    record {
+      laid-out = passed e .1;
+      sized = sized f .if1 .left;
+      formed = record { capacity = start f .args .n; others = lent (start f); formed = passed e .0 };
+    }
 
-returns-4 : tie.Need-returns-4
-returns-4 c =
-    let i = c .before .before .before .before .before .before .before .before .before .before .before .before .before .before .before .before in
-    let u = i .before .before .before .before .before .before .before .before .before .before .before in
-    i .take-entries .ensures .taken (lent (start (u .before))) (fits u)
+returns-3 : tie.Need-returns-3
+returns-3 c =
+    let t = taken c in
+    let e = accepted (t .before) in
+    t .take-entries .ensures .taken (lent (start (e .before .before))) (passed e .0)
 
 pub take-in-package-spec : {M : Type 1} → statement M
 take-in-package-spec =
     tie.close
     (tie.spec
     returns
+    (λ c κs. tt)
     (λ c κs. tt)
     (λ c. refl)
     (λ c. refl)
@@ -70,22 +82,13 @@ take-in-package-spec =
     (λ c. refl)
     (λ c. refl)
     returns-2
-    (λ c κs. tt)
-    (λ c. refl)
-    (λ c. refl)
-    (λ c. refl)
-    (λ c. refl)
-    (λ c. refl)
-    (λ c. refl)
-    (λ c. refl)
-    returns-3
     take-entries-requires
-    (λ c. c .before .before .before .before .before .before .before .before .before .before .before .before .before .before .before .before .take-entries .kept .1 .1 .0)
-    (λ c. c .before .before .before .before .before .before .before .before .before .before .before .before .before .before .before .before .take-entries .kept .1 .1 .1 .0)
-    (λ c. c .before .before .before .before .before .before .before .before .before .before .before .before .before .before .before .before .take-entries .kept .1 .1 .1 .1 .0)
-    (λ c. c .before .before .before .before .before .before .before .before .before .before .before .before .before .before .before .before .take-entries .kept .1 .1 .1 .1 .1 .0)
-    (λ c. c .before .before .before .before .before .before .before .before .before .before .before .before .before .before .before .before .take-entries .kept .1 .1 .1 .1 .1 .1 .0)
-    (λ c. c .before .before .before .before .before .before .before .before .before .before .before .before .before .before .before .before .take-entries .kept .1 .1 .1 .1 .1 .1 .1 .0)
-    (λ c. c .before .before .before .before .before .before .before .before .before .before .before .before .before .before .before .before .take-entries .kept .1 .1 .1 .1 .1 .1 .1 .1 .0)
-    (λ c. c .before .before .before .before .before .before .before .before .before .before .before .before .before .before .before .before .take-entries .kept .1 .1 .1 .1 .1 .1 .1 .1 .1 .0)
-    returns-4)
+    (λ c. held-kept (taken c .take-entries .kept))
+    (λ c. timestamps-kept (taken c .take-entries .kept))
+    (λ c. order-kept (taken c .take-entries .kept))
+    (λ c. status-kept (taken c .take-entries .kept))
+    (λ c. withdrawn-kept (taken c .take-entries .kept))
+    (λ c. lengths-kept (taken c .take-entries .kept))
+    (λ c. programs-kept (taken c .take-entries .kept))
+    (λ c. programs-kept (behind (behind (taken c .take-entries .kept))))
+    returns-3)

@@ -1,0 +1,27 @@
+-- `taking::refusal_of` meets its contract: the tests of the code are those of the definition, in order. Assumes nothing.
+use Rattle.taking.proofs.refusal_of.Statement.{statement}
+use Rattle.taking.proofs.refusal_of.Tie as tie
+
+returns : tie.Need-returns
+returns c = rw (← c .before .is-timestamp .ensures, c .if1 .taken)
+
+returns-2 : tie.Need-returns-2
+returns-2 c =
+    let t = c .before .before in
+    rw (← t .before .is-timestamp .ensures, t .if1 .left, ← c .before .length-fits .ensures, c .if2 .taken)
+
+returns-3 : tie.Need-returns-3
+returns-3 c =
+    let l = c .before .before in
+    let t = l .before .before in
+    rw (← t .before .is-timestamp .ensures, t .if1 .left, ← l .before .length-fits .ensures, l .if2 .left, ← c .before .well-formed .ensures, c .if3 .taken)
+
+returns-4 : tie.Need-returns-4
+returns-4 c =
+    let l = c .before .before in
+    let t = l .before .before in
+    rw (← t .before .is-timestamp .ensures, t .if1 .left, ← l .before .length-fits .ensures, l .if2 .left, ← c .before .well-formed .ensures, c .if3 .left)
+
+pub refusal-of-spec : {M : Type 1} → statement M
+refusal-of-spec =
+    tie.close (tie.spec (λ c κs. tt) returns (λ c κs. tt) returns-2 (λ c κs. tt) returns-3 returns-4)

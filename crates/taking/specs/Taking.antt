@@ -1,0 +1,25 @@
+-- What the parts of a taking in answer and store, as functions of the lent lists.
+use mathlib.Core.Bool.{cond}
+use mathlib.Core.List.{List, [], _∷_, _++_}
+use Prim.Native.Nat.{ℕ, _+_}
+use lib.ListN.{length, take, drop}
+use lib.Seq.{slice}
+use Rattle.model.specs.declared.Answer.{Answer}
+use Rattle.model.specs.declared.Answer.the-variants as answer
+use Rattle.model.specs.Refusals.{Test, noTimestamp, wrongProgramLength, malformed, sameBytes}
+
+-- refusals 4, 6 and 7, which the timestamp and the program decide
+abbrev pub argumentTests : ℕ → List ℕ → List Test
+argumentTests t p = noTimestamp t ∷ wrongProgramLength p ∷ malformed p ∷ []
+
+-- the answer to a program whose timestamp is held with some program: the same, or refusal 8
+abbrev pub comparedAnswer : List ℕ → List ℕ → Answer
+comparedAnswer program p = cond (sameBytes program p) answer.Held (answer.Refused 8)
+
+-- the place of number count entered at a position of the first count entries of the order list: those from there on move up by one
+abbrev pub entered : ℕ → ℕ → List ℕ → List ℕ
+entered count position order = take position order ++ (count ∷ (slice position count order ++ drop (count + 1) order))
+
+-- a list with another written over it from a slot on
+abbrev pub copied : List ℕ → ℕ → List ℕ → List ℕ
+copied source at destination = take at destination ++ source ++ drop (at + length source) destination

@@ -1,0 +1,14 @@
+-- What withdrawing is lent of the tables, and what it makes of a status.
+use mathlib.Core.Bool.{cond}
+use mathlib.Core.List.{List}
+use Prim.Native.Nat.{ℕ}
+use lib.Dec.{eqb}
+use Rattle.model.specs.Tables.{Tables, withPackage}
+
+-- the tables with those that withdrawing is lent
+abbrev pub withLent : Tables → List ℕ → List ℕ → List ℕ → List ℕ → List ℕ → Tables
+withLent T held timestamps order status withdrawn = withPackage T held timestamps order status withdrawn (T .lengths) (T .programs)
+
+-- Valid becomes Invalid
+abbrev pub unsettledNumber : ℕ → ℕ
+unsettledNumber s = cond (eqb s 1) 2 s
