@@ -2,24 +2,23 @@
 use mathlib.Core.Path.{_≡_, refl, sym, ap, ap₂, subst, _∙_}
 use mathlib.Core.Bool.{Bool, true, false, cond}
 use mathlib.Core.List.{List, [], _∷_}
-use Prim.Native.Nat.{ℕ, zero, suc, _+_, _<_, _≤_}
+use Prim.Native.Nat.{ℕ, suc, _+_, _<_, _≤_}
 use native.Mathlib.Omega.{arith}
 use lib.IntN.{ℤ}
 use lib.ListN.{length}
-use Rattle.machine.specs.Settings.{Environment}
 use Rattle.machine.proofs.Cases.{true-is-not-false}
 use Rattle.model.specs.declared.Totals.{Totals}
 use Rattle.model.specs.declared.Turned.{Turned}
 use Rattle.model.specs.History.{start, History}
-use Rattle.model.specs.Figure.{Event, ran, stood, cleared, Step, idle, turned, round}
-use Rattle.model.specs.Drain.{Drain, drainNone, drainMore, drainStep, drainFor, drainHistory, total, totals}
+use Rattle.model.specs.Figure.{Event, ran, stood, cleared, Step, idle, turned}
+use Rattle.model.specs.Drain.{Drain, drainMore, drainHistory, total, totals}
 use Rattle.model.specs.Cabinet.{Cabinet, historyOf, withHistory}
 use Rattle.model.specs.Tables.{Tables, encode, decode}
 use Rattle.model.specs.Calls.{Reply, reply, eventAnswer, stepReply, roundOf, drainOf}
 use Rattle.model.specs.Sound.{Sound}
 use Rattle.model.proofs.Cabinet.{withHistory-history, same-history, history-again}
 use Rattle.model.proofs.Encode.{lengths-encode}
-use Rattle.model.proofs.Figure.{drain-idle, drain-next}
+use Rattle.model.proofs.Figure.{drain-within, drain-idle, drain-next}
 use Rattle.model.proofs.Keeps.{StepKeeps, Keeps, keeps-length, round-keeps, drain-keeps, round-sound}
 use Rattle.model.proofs.Order.{changesAt-length}
 use Rattle.model.proofs.Tables.{decode-encode}
@@ -58,26 +57,17 @@ sums-next (stood t) m n = let e : m .stood + 1 + n .stood ≡ m .stood + suc (n 
 sums-next (cleared t) m n = let e : m .cleared + 1 + n .cleared ≡ m .cleared + suc (n .cleared) = omega arith in λ j. three (m .ran + n .ran) (m .stood + n .stood) (e j)
 
 -- a turn that is not idle
-pub event-goes-on : (e : Event) → goesOn (eventAnswer e) ≡ true
+event-goes-on : (e : Event) → goesOn (eventAnswer e) ≡ true
 event-goes-on (ran t l) = refl
 event-goes-on (stood t) = refl
 event-goes-on (cleared t) = refl
 
--- there are at most as many turns as changes
+-- each turn is counted once
 total-within : (events : List Event) → totals events .ran + totals events .stood + totals events .cleared ≤ length events
 total-within [] = omega arith
 total-within (ran t l ∷ events) = let rest = total-within events in omega arith
 total-within (stood t ∷ events) = let rest = total-within events in omega arith
 total-within (cleared t ∷ events) = let rest = total-within events in omega arith
-
-pub drain-within : (k : ℕ) (env : Environment) (h : History) (view : List ℤ) → length (drainFor k env h view .events) ≤ k
-unfolding drainFor
-drain-within zero env h view = omega arith
-drain-within (suc k) env h view = go (drain-within k env) (round env h view)
-  where
-    go : ((h : History) (view : List ℤ) → length (drainFor k env h view .events) ≤ k) → (s : Step) → length (drainStep (drainFor k env) (drainNone h view) s .events) ≤ suc k
-    go ih idle = omega arith
-    go ih (turned h' view' e) = let rest = ih h' view' in omega arith
 
 -- ---- the tables of a drain under way
 
@@ -180,7 +170,6 @@ module _ (T : Tables) (g : Formed (length (T .order)) T) where
 
 -- the totals so far are within the capacity
 pub totals-small : {T₀ T : Tables} {n : Totals} {going : Bool} → Formed (length (T₀ .order)) T₀ → Draining T₀ T n going → (n .ran ≤ 4096) × (n .stood ≤ 4096) × (n .cleared ≤ 4096)
-unfolding drainHistory
 totals-small {T₀} {T} {n} g k =
     let c = decode T₀ in
     let s = sound T₀ g in
@@ -188,7 +177,7 @@ totals-small {T₀} {T} {n} g k =
     let stood = ap (λ (t : Totals). t .stood) (k .counts) in
     let cleared = ap (λ (t : Totals). t .cleared) (k .counts) in
     let all = total-within (drainOf c .events) in
-    let turns = drain-within (length (historyOf c)) start (historyOf c) (c .view) in
+    let turns = drain-within start (historyOf c) (c .view) in
     let held = changesAt-length (c .changes) (c .order) in (
       omega (arith, ran, all, turns, held, s .placed .counted, s .small, s .capacity),
       omega (arith, stood, all, turns, held, s .placed .counted, s .small, s .capacity),

@@ -6,49 +6,22 @@ use Prim.Native.Nat.{ℕ}
 use native.Mathlib.Omega.{arith}
 use borrow.Author.Tests.{eqb-true}
 use lib.Dec.{eqb}
-use lib.IntN.{pos}
-use lib.ListN.{length, replicate, length-replicate}
+use lib.ListN.{length}
 use Rattle.machine.proofs.Cases.{both}
 use Rattle.text.specs.Pieces.{Put}
 use Rattle.text.proofs.Pieces.{put-as}
 use Rattle.model.specs.declared.Answer.{Answer}
 use Rattle.model.specs.declared.Answer.the-variants as answer
-use Rattle.model.specs.Tables.{Tables, tables}
-use Rattle.model.specs.Form.{lengthsFit, inForm}
+use Rattle.model.specs.Tables.{Tables}
+use Rattle.model.specs.Form.{lengthsFit, inForm, Formed}
 use Rattle.model.specs.Refusals.{test, firstOf, wrongLength, notInForm}
-use Rattle.model.specs.Package.{layoutFits, itemsOf}
+use Rattle.model.specs.Package.{layoutFits}
 use Rattle.model.specs.Calls.{answerNumber, Reply, reply, setUp, PackageReply, packageReply, takeInPackage}
-use Rattle.model.proofs.Form.{encode-lengths, encode-form, decode-sound}
-use Rattle.model.proofs.Items.{items-sound}
-use Rattle.model.proofs.Tests.{lengths-fit}
+use Rattle.model.specs.Log.{packageCall, afterCall, begun}
+use Rattle.theory.proofs.AnyTables.{calls-keep-form}
 use Rattle.replies.specs.Replies.{capacity, replyLines}
+use Rattle.replies.specs.Putting.{Answered}
 use Rattle.listing.specs.Listing.{listing}
-
--- tables of zeros have the right lengths
-abbrev pub zeros : Tables
-zeros = tables (replicate 1 0) (replicate 128 0) (replicate 128 0) (replicate 128 0) (replicate 128 0) (replicate 128 0) (replicate 32768 0) (replicate 128 0) (replicate 128 0) (replicate 4096 0) (replicate 4096 (pos 0)) (replicate 4096 0) (replicate 4096 (pos 0)) (replicate 1024 (pos 0))
-
-pub zeros-fit : lengthsFit capacity zeros ≡ true
-zeros-fit =
-    lengths-fit capacity zeros
-    (record {
-      some-capacity = omega arith;
-      capacity = omega arith;
-      held = length-replicate {A = ℕ} 1 0;
-      timestamps = length-replicate {A = ℕ} 128 0;
-      order = length-replicate {A = ℕ} 128 0;
-      status = length-replicate {A = ℕ} 128 0;
-      withdrawn = length-replicate {A = ℕ} 128 0;
-      lengths = length-replicate {A = ℕ} 128 0;
-      programs = length-replicate {A = ℕ} 32768 0;
-      reads = length-replicate {A = ℕ} 128 0;
-      writes = length-replicate {A = ℕ} 128 0;
-      sources = length-replicate {A = ℕ} 4096 0;
-      seen = length-replicate 4096 (pos 0);
-      targets = length-replicate {A = ℕ} 4096 0;
-      written = length-replicate 4096 (pos 0);
-      view = length-replicate 1024 (pos 0);
-    })
 
 -- three tests, none of which applies
 none-applies : (a b c : Bool) → firstOf (test 1 (not a) ∷ test 2 (not b) ∷ test 3 (not c) ∷ []) ≡ 0 → (a ≡ true) × (b ≡ true) × (c ≡ true)
@@ -58,9 +31,6 @@ none-applies true false c e = absurd (omega arith)
 none-applies false b c e = absurd (omega arith)
 
 -- what an answered package says of the bytes and of the tables that it leaves
-abbrev Answered : List ℕ → Tables → Type 0
-Answered bytes U = (layoutFits bytes ≡ true) × (lengthsFit capacity U ≡ true) × (inForm capacity U ≡ true)
-
 module _ (T : Tables) (bytes lent : List ℕ) where
   abbrev refusal : ℕ
   refusal = firstOf (wrongLength capacity T (length lent) 512 ∷ notInForm capacity T ∷ test 3 (not (layoutFits bytes)) ∷ [])
@@ -74,11 +44,11 @@ module _ (T : Tables) (bytes lent : List ℕ) where
       go r done false q z = z
 
   leaves : refusal ≡ 0 → Answered bytes (takeInPackage capacity T bytes lent .tables)
-  unfolding takeInPackage
+  unfolding afterCall
   leaves z =
       let t = none-applies (lengthsFit capacity T && eqb (length lent) 512) (inForm capacity T) (layoutFits bytes) z in
-      let s = items-sound (itemsOf bytes) (decode-sound capacity T (both (lengthsFit capacity T) (t .0) .0) (t .1)) in
-      rw (t .0, t .1, t .2) (refl, encode-lengths capacity _ s, encode-form capacity _ s)
+      let formed : Formed capacity T = record { lengths = both (lengthsFit capacity T) (t .0) .0; form = t .1 } in
+      record { layout = t .2; formed = calls-keep-form capacity (packageCall bytes lent) (begun T) formed }
 
   pub package-answered : {a : Answer} {U : Tables} {answers : List ℕ} → packageReply a U answers ≡ takeInPackage capacity T bytes lent → answerNumber a ≡ 0 → Answered bytes U
   package-answered e z = subst (Answered bytes) (ap (λ (r : PackageReply). r .tables) (sym e)) (leaves (not-refused (ap (λ (r : PackageReply). answerNumber (r .answer)) (sym e) ∙ z)))

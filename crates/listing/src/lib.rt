@@ -34,9 +34,20 @@ pub fn put_listing(
     answers: &mut [u8],
     text: &mut [u8],
 ) -> usize
-    requires { ⌜ lengthsFit capacity (tables (now held) (now timestamps) (now order) (now status) (now withdrawn) (now lengths) (now programs) (now reads) (now writes) (now sources) (now seen) (now targets) (now written) (now view)) ≡ true ⌝ }
+    requires { ⌜
+        lengthsFit capacity
+        (tables (now held) (now timestamps) (now order) (now status) (now withdrawn) (now lengths) (now programs)
+        (now reads) (now writes) (now sources) (now seen) (now targets) (now written) (now view))
+        ≡ true
+        ⌝ }
     requires { ⌜ (length (now answers) ≡ 512) × (131072 ≤ length (now text)) ⌝ }
-    ensures { λ r. ⌜ Put 0 (listing (tables (now (held .entry)) (now (timestamps .entry)) (now (order .entry)) (now (status .entry)) (now (withdrawn .entry)) (now (lengths .entry)) (now (programs .entry)) (now (reads .entry)) (now (writes .entry)) (now (sources .entry)) (now (seen .entry)) (now (targets .entry)) (now (written .entry)) (now (view .entry))) (now (bytes .entry)) (now (answers .entry))) (now (text .entry)) (now (text .exit)) r ⌝ }
+    ensures { λ r. ⌜
+        (let T =
+        tables (now (held .entry)) (now (timestamps .entry)) (now (order .entry)) (now (status .entry)) (now (withdrawn .entry))
+        (now (lengths .entry)) (now (programs .entry)) (now (reads .entry)) (now (writes .entry)) (now (sources .entry))
+        (now (seen .entry)) (now (targets .entry)) (now (written .entry)) (now (view .entry)) in
+        Put 0 (listing T (now (bytes .entry)) (now (answers .entry))) (now (text .entry)) (now (text .exit)) r)
+        ⌝ }
     ensures { λ r. ⌜ Counts r (now (text .exit)) ⌝ }
 {
     set_up(

@@ -1,4 +1,4 @@
--- A drain, on a history by rising timestamp: it ends with every change Valid, its turns go by rising timestamp, and it is its first turn and the drain of what that leaves.
+-- A drain, on a history by rising timestamp: it ends with every change Valid, its turns go by rising timestamp and are at most as many as the changes, and it is its first turn and the drain of what that leaves.
 use mathlib.Core.Path.{_≡_, refl, sym, ap, subst, _∙_}
 use mathlib.Core.Bool.{Bool, true, false}
 use mathlib.Core.List.{List, [], _∷_}
@@ -125,6 +125,22 @@ drain-ends env h view r =
       rising = keeps-rising 0 (drain-keeps env h view) r;
       rising-events = f .rising-events;
     }
+
+-- ---- how many turns
+
+turns-within : (k : ℕ) (env : Environment) (h : History) (view : List ℤ) → length (drainFor k env h view .events) ≤ k
+unfolding drainFor
+turns-within zero env h view = omega arith
+turns-within (suc k) env h view = go (turns-within k env) (round env h view)
+  where
+    go : ((h : History) (view : List ℤ) → length (drainFor k env h view .events) ≤ k) → (s : Step) → length (drainStep (drainFor k env) (drainNone h view) s .events) ≤ suc k
+    go ih idle = omega arith
+    go ih (turned h' view' e) = let rest = ih h' view' in omega arith
+
+-- at most as many turns as changes
+pub drain-within : (env : Environment) (h : History) (view : List ℤ) → length (drainHistory env h view .events) ≤ length h
+unfolding drainHistory
+drain-within env h view = turns-within (length h) env h view
 
 -- ---- a drain by its first turn
 

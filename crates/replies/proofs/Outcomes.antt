@@ -7,7 +7,7 @@ use lib.IntN.{ℤ}
 use Rattle.model.specs.declared.Answer.{Answer}
 use Rattle.model.specs.Tables.{Tables}
 use Rattle.model.specs.Calls.{answerNumber, packageReply, drain}
-use Rattle.model.specs.Log.{drainEvents}
+use Rattle.model.specs.Log.{drainTurns}
 use Rattle.lines.specs.Lines.{packageLine}
 use Rattle.replies.specs.Replies.{capacity, entryLines, turnLines, settingLines, replyLines}
 
@@ -15,5 +15,5 @@ module _ (bytes answers : List ℕ) (a : Answer) (T : Tables) {number : ℕ} (n 
   pub reply-refused : (number ≡ 0 → ⊥) → packageLine number ≡ replyLines bytes (packageReply a T answers)
   reply-refused h = ap packageLine n ∙ rw (ne-eqb (answerNumber a) 0 (λ q. h (n ∙ q)))
 
-  pub reply-answered : {view : List ℤ} → number ≡ 0 → view ≡ drain capacity T .tables .view → entryLines bytes answers ++ turnLines (drainEvents capacity T) ++ settingLines view ≡ replyLines bytes (packageReply a T answers)
-  reply-answered z v = ap (λ (view : List ℤ). entryLines bytes answers ++ turnLines (drainEvents capacity T) ++ settingLines view) v ∙ rw (eq-eqb (answerNumber a) 0 (sym n ∙ z))
+  pub reply-answered : {view : List ℤ} → number ≡ 0 → view ≡ drain capacity T .tables .view → entryLines bytes answers ++ turnLines (drainTurns capacity T) ++ settingLines view ≡ replyLines bytes (packageReply a T answers)
+  reply-answered z v = ap (λ (view : List ℤ). entryLines bytes answers ++ turnLines (drainTurns capacity T) ++ settingLines view) v ∙ rw (eq-eqb (answerNumber a) 0 (sym n ∙ z))

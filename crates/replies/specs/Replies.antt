@@ -6,10 +6,10 @@ use lib.Dec.{eqb}
 use lib.IntN.{ℤ}
 use lib.ListN.{getD}
 use Rattle.machine.specs.Settings.{settingCount, valueIn}
-use Rattle.model.specs.Figure.{Event}
+use Rattle.model.specs.declared.Turned.{Turned}
 use Rattle.model.specs.Package.{entryCount, kindOf}
-use Rattle.model.specs.Calls.{answerNumber, PackageReply, eventAnswer, drain}
-use Rattle.model.specs.Log.{drainEvents}
+use Rattle.model.specs.Calls.{answerNumber, PackageReply, drain}
+use Rattle.model.specs.Log.{drainTurns}
 use Rattle.lines.specs.Lines.{packageLine, entryLine, turnLine, settingLine}
 
 -- N
@@ -28,10 +28,10 @@ entryOf bytes answers j = entryLine j (kindOf bytes j) (getD answers j 0)
 unfoldable pub entryLines : List ℕ → List ℕ → List ℕ
 entryLines bytes answers = linesBelow (entryCount bytes) (entryOf bytes answers)
 
--- turns
-abbrev pub turnLines : List Event → List ℕ
+-- turns, as single turns answer them
+abbrev pub turnLines : List Turned → List ℕ
 turnLines [] = []
-turnLines (e ∷ events) = turnLine (eventAnswer e) ++ turnLines events
+turnLines (a ∷ turns) = turnLine a ++ turnLines turns
 
 -- a setting with its value; the settings that are not 0
 abbrev pub settingOf : List ℤ → ℕ → List ℕ
@@ -44,5 +44,5 @@ settingLines view = linesBelow settingCount (settingOf view)
 abbrev pub replyLines : List ℕ → PackageReply → List ℕ
 replyLines bytes r =
     cond (eqb (answerNumber (r .answer)) 0)
-    (entryLines bytes (r .answers) ++ turnLines (drainEvents capacity (r .tables)) ++ settingLines (drain capacity (r .tables) .tables .view))
+    (entryLines bytes (r .answers) ++ turnLines (drainTurns capacity (r .tables)) ++ settingLines (drain capacity (r .tables) .tables .view))
     (packageLine (answerNumber (r .answer)))

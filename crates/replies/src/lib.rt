@@ -1,7 +1,7 @@
 // The reply to a package as text: its entries, the turns of one drain, and the settings that are not 0.
 use answer_numbers::answer_number;
-use checker::goes_on;
 use history::Answer;
+use history::Turned;
 use history::turn;
 use lines::put_entry;
 use lines::put_refusal;
@@ -15,11 +15,11 @@ ghost use Prim.Native.Nat.{_+_, _≤_};
 ghost use lib.ListN.{length};
 ghost use Rattle.text.specs.Pieces.{Put};
 ghost use Rattle.model.specs.Tables.{tables};
-ghost use Rattle.model.specs.Form.{lengthsFit, inForm};
+ghost use Rattle.model.specs.Form.{Formed};
 ghost use Rattle.model.specs.Package.{layoutFits};
-ghost use Rattle.model.specs.Calls.{answerNumber, packageReply, drain};
-ghost use Rattle.model.specs.Log.{drainEvents};
-ghost use Rattle.replies.specs.Replies.{capacity, entryLines, turnLines, settingLines, replyLines};
+ghost use Rattle.model.specs.Calls.{answerNumber, packageReply};
+ghost use Rattle.replies.specs.Replies.{capacity, entryLines, settingLines, replyLines};
+ghost use Rattle.replies.specs.Putting.{Answered, isIdle, TurnsPut};
 
 // How many changes the tables hold.
 pub const CAPACITY: usize = 128;
@@ -38,6 +38,19 @@ fn put_entries(bytes: &[u8], answers: &[u8], text: &mut [u8]) -> usize
         j += 1;
     }
     end
+}
+
+// Whether a turn was idle.
+fn is_idle(answer: Turned) -> bool
+    ensures { λ r. ⌜ r ≡ isIdle answer ⌝ }
+{
+    match answer {
+        Turned::Idle => true,
+        Turned::Ran(_) => false,
+        Turned::Stood(_) => false,
+        Turned::Cleared(_) => false,
+        Turned::Refused(_) => false,
+    }
 }
 
 // Turns until idle, and the line of each.
@@ -59,16 +72,23 @@ fn put_turns(
     text: &mut [u8],
     at: usize,
 ) -> usize
-    requires { ⌜ lengthsFit capacity (tables (now held) (now timestamps) (now order) (now status) (now withdrawn) (now lengths) (now programs) (now reads) (now writes) (now sources) (now seen) (now targets) (now written) (now view)) ≡ true ⌝ }
-    requires { ⌜ inForm capacity (tables (now held) (now timestamps) (now order) (now status) (now withdrawn) (now lengths) (now programs) (now reads) (now writes) (now sources) (now seen) (now targets) (now written) (now view)) ≡ true ⌝ }
+    requires { ⌜
+        Formed capacity
+        (tables (now held) (now timestamps) (now order) (now status) (now withdrawn) (now lengths) (now programs)
+        (now reads) (now writes) (now sources) (now seen) (now targets) (now written) (now view))
+        ⌝ }
     requires { ⌜ at + 8256 ≤ length (now text) ⌝ }
-    ensures { λ r. ⌜ Put at (turnLines (drainEvents capacity (tables (now (held .entry)) (now (timestamps .entry)) (now (order .entry)) (now (status .entry)) (now (withdrawn .entry)) (now (lengths .entry)) (now (programs .entry)) (now (reads .entry)) (now (writes .entry)) (now (sources .entry)) (now (seen .entry)) (now (targets .entry)) (now (written .entry)) (now (view .entry))))) (now (text .entry)) (now (text .exit)) r ⌝ }
-    ensures { λ r. ⌜ r ≤ at + 8192 ⌝ }
-    ensures { λ _. ⌜ now (view .exit) ≡ drain capacity (tables (now (held .entry)) (now (timestamps .entry)) (now (order .entry)) (now (status .entry)) (now (withdrawn .entry)) (now (lengths .entry)) (now (programs .entry)) (now (reads .entry)) (now (writes .entry)) (now (sources .entry)) (now (seen .entry)) (now (targets .entry)) (now (written .entry)) (now (view .entry))) .tables .view ⌝ }
+    ensures { λ r. ⌜
+        (let T =
+        tables (now (held .entry)) (now (timestamps .entry)) (now (order .entry)) (now (status .entry)) (now (withdrawn .entry))
+        (now (lengths .entry)) (now (programs .entry)) (now (reads .entry)) (now (writes .entry)) (now (sources .entry))
+        (now (seen .entry)) (now (targets .entry)) (now (written .entry)) (now (view .entry)) in
+        TurnsPut T at (now (text .entry)) (now (text .exit)) (now (view .exit)) r)
+        ⌝ }
 {
     let mut end = at;
-    let mut going = true;
-    while going {
+    let mut idle = false;
+    while !idle {
         let answer = turn(
             CAPACITY,
             held,
@@ -87,7 +107,7 @@ fn put_turns(
             view,
         );
         end = put_turn(answer, text, end);
-        going = goes_on(answer);
+        idle = is_idle(answer);
     }
     end
 }
@@ -128,9 +148,20 @@ pub fn put_reply(
     view: &mut [i32],
     text: &mut [u8],
 ) -> usize
-    requires { ⌜ (answerNumber answer ≡ 0 → (layoutFits (now bytes) ≡ true) × (lengthsFit capacity (tables (now held) (now timestamps) (now order) (now status) (now withdrawn) (now lengths) (now programs) (now reads) (now writes) (now sources) (now seen) (now targets) (now written) (now view)) ≡ true) × (inForm capacity (tables (now held) (now timestamps) (now order) (now status) (now withdrawn) (now lengths) (now programs) (now reads) (now writes) (now sources) (now seen) (now targets) (now written) (now view)) ≡ true)) ⌝ }
+    requires { ⌜
+        (answerNumber answer ≡ 0 →
+        Answered (now bytes)
+        (tables (now held) (now timestamps) (now order) (now status) (now withdrawn) (now lengths) (now programs)
+        (now reads) (now writes) (now sources) (now seen) (now targets) (now written) (now view)))
+        ⌝ }
     requires { ⌜ (length (now answers) ≡ 512) × (131072 ≤ length (now text)) ⌝ }
-    ensures { λ r. ⌜ Put 0 (replyLines (now (bytes .entry)) (packageReply answer (tables (now (held .entry)) (now (timestamps .entry)) (now (order .entry)) (now (status .entry)) (now (withdrawn .entry)) (now (lengths .entry)) (now (programs .entry)) (now (reads .entry)) (now (writes .entry)) (now (sources .entry)) (now (seen .entry)) (now (targets .entry)) (now (written .entry)) (now (view .entry))) (now (answers .entry)))) (now (text .entry)) (now (text .exit)) r ⌝ }
+    ensures { λ r. ⌜
+        (let T =
+        tables (now (held .entry)) (now (timestamps .entry)) (now (order .entry)) (now (status .entry)) (now (withdrawn .entry))
+        (now (lengths .entry)) (now (programs .entry)) (now (reads .entry)) (now (writes .entry)) (now (sources .entry))
+        (now (seen .entry)) (now (targets .entry)) (now (written .entry)) (now (view .entry)) in
+        Put 0 (replyLines (now (bytes .entry)) (packageReply answer T (now (answers .entry)))) (now (text .entry)) (now (text .exit)) r)
+        ⌝ }
     ensures { λ r. ⌜ r ≤ 131072 ⌝ }
 {
     let refusal = answer_number(answer);

@@ -44,3 +44,7 @@ written-kept kept = targets-kept (kept .1)
 
 abbrev pub view-kept : {A B C D E F G H I J K L M N Rest : Type 0} → A × (B × (C × (D × (E × (F × (G × (H × (I × (J × (K × (L × (M × (N × Rest))))))))))))) → N
 view-kept kept = written-kept (kept .1)
+
+-- what follows the tables
+abbrev pub behind-tables : {A B C D E F G H I J K L M N Rest : Type 0} → A × (B × (C × (D × (E × (F × (G × (H × (I × (J × (K × (L × (M × (N × Rest))))))))))))) → Rest
+behind-tables kept = kept .1 .1 .1 .1 .1 .1 .1 .1 .1 .1 .1 .1 .1 .1

@@ -4,7 +4,7 @@ use mathlib.Core.List.{List}
 use Prim.Native.Nat.{ℕ}
 use native.Mathlib.Omega.{arith}
 use lib.IntN.{ℤ}
-use lib.ListN.{length}
+use lib.ListN.{length, length-map}
 use Rattle.model.specs.declared.Turned.the-variants.{Idle}
 use Rattle.model.specs.History.{start, History}
 use Rattle.model.specs.Figure.{Event, ran, stood, cleared, Step, idle, turned}
@@ -16,8 +16,9 @@ use Rattle.model.specs.Calls.{eventAnswer, roundOf, drainOf}
 use Rattle.model.specs.Log.{Call, Ledger}
 use Rattle.model.specs.Sound.{Sound}
 use Rattle.model.proofs.Cabinet.{withHistory-history, same-history, history-again}
+use Rattle.model.proofs.Order.{changesAt-length}
 use Rattle.model.proofs.Keeps.{StepKeeps, Keeps, keeps-length, round-keeps, drain-keeps, round-sound, drain-sound}
-use Rattle.model.proofs.Figure.{drain-ends, drain-idle, drain-next}
+use Rattle.model.proofs.Figure.{drain-ends, drain-within, drain-idle, drain-next}
 use Rattle.model.proofs.Form.{encode-formed, facts}
 use Rattle.theory.specs.AnyTables.{KeepsForm, DrainsAny, DrainsByTurns}
 use Rattle.theory.proofs.Calls.{turn-call, drain-call, drain-events, drained-history, call-tables, call-sound}
@@ -32,11 +33,15 @@ calls-keep-form n call k f =
 -- ---- a drain ends
 
 drain-any : {n : ℕ} {c : Cabinet} → Sound n c → DrainsAny n (encode n c)
+unfolding encode
 drain-any {n} {c} s =
     let d = drain-ends start (historyOf c) (c .view) (s .rising) in
+    let within = drain-within start (historyOf c) (c .view) in
+    let turns = length-map (drainOf c .events) eventAnswer in
     record {
       answered = rw (drain-call s, drain-events s);
       rising-turns = rw (drain-events s) (d .rising-events);
+      few-turns = rw (drain-events s) (omega (arith, within, turns, changesAt-length (c .changes) (c .order), s .placed .counted));
       idle-next = rw (drain-call s, turn-call (drain-sound s), drained-history s, d .idle-next);
     }
 
@@ -56,6 +61,7 @@ module _ {n : ℕ} {c : Cabinet} (s : Sound n c) where
   idle-drain q =
       let none : drainOf c ≡ drainNone (historyOf c) (c .view) = drain-idle start (historyOf c) (c .view) q in
       record {
+        idle-leaves = λ i. rw (turn-call s, q);
         none-left = λ i. (rw (drain-events s, none), rw (drain-call s, none) (ap (encode n) (same-history c)));
         one-more = λ f. absurd (f (rw (turn-call s, q)));
       }
@@ -85,6 +91,7 @@ module _ {n : ℕ} {c : Cabinet} (s : Sound n c) where
     turn-drain : DrainsByTurns n (encode n c)
     turn-drain =
         record {
+          idle-leaves = λ i. absurd (event-not-idle e (rw (turn-call s, q) at i));
           none-left = λ i. absurd (event-not-idle e (rw (turn-call s, q) at i));
           one-more = λ f. (
             rw (turn-call s, q, drain-events s, drain-events next-sound, first-turn),
