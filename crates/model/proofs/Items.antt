@@ -15,7 +15,7 @@ use Rattle.model.specs.declared.Answer.the-variants as answer
 use Rattle.model.specs.History.{infinity, Change, change, History}
 use Rattle.model.specs.Walk.{insert}
 use Rattle.model.specs.Cabinet.{Cabinet, historyOf, find}
-use Rattle.model.specs.Refusals.{Test, firstOf, noTimestamp, wrongProgramLength, malformed, isHeld, isWithdrawn, heldOtherwise, full, notHeld, withdrawnAlready}
+use Rattle.model.specs.Refusals.{Test, firstOf, noTimestamp, wrongProgramLength, malformed, isHeld, heldOtherwise, full}
 use Rattle.model.specs.Package.{Item, taking, withdrawing}
 use Rattle.model.specs.Book.{booked, enter, strike, bookedAs, bookOf}
 use Rattle.model.specs.Calls.{answerNumber, itemRefusal, itemAccepted, itemAnswer, itemDone, ifDone, itemStep, itemAnswers, itemSteps}
@@ -69,13 +69,6 @@ pub record TakingDone (n : ℕ) (c : Cabinet) (t : ℕ) (p : List ℕ) : Type 0 
   pub not-held : find t (historyOf c) ≡ none
   pub room : length (c .changes) < n
 
--- the timestamp is one, and is held by a change not yet withdrawn
-pub record WithdrawingDone (c : Cabinet) (t : ℕ) : Type 0 where
-  pub above : 0 < t
-  pub below : t < infinity
-  pub held : isHeld (find t (historyOf c)) ≡ true
-  pub not-yet : isWithdrawn (find t (historyOf c)) ≡ false
-
 not-held-none : (found : Option Change) → cond (isHeld found) answer.Held answer.Done ≡ answer.Done → found ≡ none
 not-held-none none e = refl
 not-held-none (some u) e = cc
@@ -93,18 +86,6 @@ taking-done n c t p e =
       formed = not-false (wellFormed p) (z .1 .1 .0);
       not-held = found;
       room = leb-false n (length (c .changes)) (sym (and-true _) ∙ (rw found at (z .1 .1 .1 .1 .0)));
-    }
-
-pub withdrawing-done : (n : ℕ) (c : Cabinet) (t : ℕ) → itemAnswer n c (withdrawing t) ≡ answer.Done → WithdrawingDone c t
-withdrawing-done n c t e =
-    let accepted = done-accepted n c (withdrawing t) e in
-    let z = none-applies (noTimestamp t ∷ notHeld c t ∷ withdrawnAlready c t ∷ []) (omega arith) (accepted .0) in
-    let stamped = both (ltb 0 t) (not-false _ (z .0)) in
-    record {
-      above = ltb-true 0 t (stamped .0);
-      below = ltb-true t infinity (stamped .1);
-      held = not-false (isHeld (find t (historyOf c))) (z .1 .0);
-      not-yet = z .1 .1 .0;
     }
 
 -- ---- answers and their numbers

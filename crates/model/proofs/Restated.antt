@@ -1,5 +1,5 @@
 -- The tables of a cabinet with one change restated: its status and its flag may differ, and nothing else.
-use mathlib.Core.Path.{_≡_, sym, ap, _∙_}
+use mathlib.Core.Path.{_≡_, ap}
 use mathlib.Core.List.{List, [], _∷_, map}
 use Prim.Native.Nat.{ℕ, _/_, _<_}
 use lib.IntN.{pos}

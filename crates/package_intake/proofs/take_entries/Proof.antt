@@ -27,8 +27,11 @@ abbrev μ-loop : tie.MeasureT-loop
 abbrev entry : tie.After-slice-known8 Inv-loop μ-loop → tie.Start Inv-loop μ-loop
 entry c = c .before .before .before .before .before .before .before .before .before
 
+abbrev counted : tie.At-loop Inv-loop μ-loop → tie.After-entry-count Inv-loop μ-loop
+counted c = c .before .before
+
 abbrev start : tie.At-loop Inv-loop μ-loop → tie.Start Inv-loop μ-loop
-start c = entry (c .before .before .before)
+start c = entry (counted c .before)
 
 abbrev asked : tie.After-take-entry-arg7 Inv-loop μ-loop → tie.In-loop Inv-loop μ-loop
 asked c = c .before .before .before .before .before .before .before
@@ -57,7 +60,7 @@ current c T =
 more : (c : tie.In-loop Inv-loop μ-loop) → c .before .loop .j < entryCount (start (c .before) .args .bytes .now)
 more c =
     let l = c .before in
-    omega (arith, ltb-true (l .loop .j) _ (sym (l .loop .inv .0) ∙ c .loop-test .taken), l .before .before .entry-count .ensures)
+    omega (arith, ltb-true (l .loop .j) _ (sym (l .loop .inv .0) ∙ c .loop-test .taken), counted l .entry-count .ensures)
 
 ready : (c : tie.In-loop Inv-loop μ-loop) → let l = c .before .loop in EntryReady (start (c .before) .args .bytes .now) (l .j) (l .body) (current (c .before))
 ready c = entry-ready (start (c .before) .pre) (c .before .loop .inv .1) (more c)
@@ -72,7 +75,8 @@ entry-at-requires c κs = omega (arith, c .entry-count .ensures, laid-out _ (ent
 
 loop-holds : tie.Need-loop-holds Inv-loop μ-loop
 loop-holds c =
-    (refl, entries-none (entry (c .before .before) .pre) (c .entry-at .ensures ∙ ap entryAt (c .before .entry-count .ensures)))
+    let k = c .before in
+    (refl, entries-none (entry (k .before) .pre) (c .entry-at .ensures ∙ ap entryAt (k .entry-count .ensures)))
 
 loop-again : tie.Need-loop-again Inv-loop μ-loop
 loop-again c =
@@ -90,7 +94,7 @@ ended c = still-lengths (start c .pre) (c .loop .inv .1)
 returns : tie.Need-returns Inv-loop μ-loop
 returns c =
     let l = c .before in
-    entries-taken (start l .pre) (l .loop .inv .1) (omega (arith, ltb-false (l .loop .j) _ (sym (l .loop .inv .0) ∙ c .loop-test .left), l .before .before .entry-count .ensures))
+    entries-taken (start l .pre) (l .loop .inv .1) (omega (arith, ltb-false (l .loop .j) _ (sym (l .loop .inv .0) ∙ c .loop-test .left), counted l .entry-count .ensures))
 
 pub take-entries-spec : {M : Type 1} → statement M
 take-entries-spec =
@@ -108,7 +112,7 @@ take-entries-spec =
     (λ c. omega (arith, body-inside (ready (turn (c .before))) (c .count-at .ensures), bytes-short (ready (turn (c .before)))))
     (λ c. omega (arith, body-inside (ready (turn (c .before))) (c .count-at .ensures), bytes-short (ready (turn (c .before)))))
     (λ c. omega (arith, entry-inside (ready (turn (c .before))), bytes-short (ready (turn (c .before)))))
-    (λ c. omega (arith, more (turn (c .before)), turn (c .before) .before .before .before .entry-count .ensures))
+    (λ c. omega (arith, more (turn (c .before)), counted (turn (c .before) .before) .entry-count .ensures))
     loop-again
     (λ c. ended (c .before) .held ∙ sym (begun (start (c .before)) .held))
     (λ c. ended (c .before) .timestamps ∙ sym (begun (start (c .before)) .timestamps))

@@ -27,6 +27,9 @@ entry c = c .before .before .before .before .before .before .before .before
 abbrev start : tie.After-kind-at → tie.Start
 start c = entry (c .before .before)
 
+abbrev kinded : tie.After-count-at → tie.After-kind-at
+kinded c = c .before .before
+
 abbrev counted : tie.After-take-item-arg5 → tie.After-count-at
 counted c = c .before .before .before .before .before
 
@@ -42,24 +45,24 @@ withdrew c = c .before .before .before .before
 -- ---- needs
 
 -- the body ends within the bytes, which are few
-ends : (c : tie.After-count-at) → let a = start (c .before .before) .args in (a .body + 8 * c .count-at .result ≤ length (a .bytes .now)) × (length (a .bytes .now) ≤ 65535)
+ends : (c : tie.After-count-at) → let a = start (kinded c) .args in (a .body + 8 * c .count-at .result ≤ length (a .bytes .now)) × (length (a .bytes .now) ≤ 65535)
 ends c =
-    let r = start (c .before .before) .pre in
+    let r = start (kinded c) .pre in
     (body-inside r (c .count-at .ensures), bytes-short r)
 
 take-item-requires : tie.Need-take-item-requires
 take-item-requires c κs =
-    let s = start (counted (c .before) .before .before) in
+    let s = start (kinded (counted (c .before))) in
     formed-on (lent s) (s .pre .formed)
 
 returns : tie.Need-returns
 returns c =
     let i = taken c in
     let k = counted (i .before .before) in
-    let t = k .before in
-    let s = start (t .before) in
+    let q = kinded k in
+    let s = start q in
     answered-on (lent s) (itemAt (s .args .bytes .now) (s .args .j)) (i .take-item .ensures)
-    (item-taking (s .args .bytes .now) (s .args .j) (t .before .before .timestamp-at .ensures) (sym (t .before .kind-at .ensures) ∙ t .if1 .taken) (s .pre .begins) (k .count-at .ensures))
+    (item-taking (s .args .bytes .now) (s .args .j) (q .before .timestamp-at .ensures) (sym (q .kind-at .ensures) ∙ k .before .if1 .taken) (s .pre .begins) (k .count-at .ensures))
 
 withdraw-item-requires : tie.Need-withdraw-item-requires
 withdraw-item-requires c κs =
@@ -70,9 +73,10 @@ returns-2 : tie.Need-returns-2
 returns-2 c =
     let i = withdrew c in
     let e = other (i .before) in
-    let s = start (e .before) in
+    let q = e .before in
+    let s = start q in
     answered-on (lent s) (itemAt (s .args .bytes .now) (s .args .j)) (i .withdraw-item .ensures)
-    (item-withdrawing (s .args .bytes .now) (s .args .j) (e .before .before .timestamp-at .ensures) (λ z. e .if1 .left (e .before .kind-at .ensures ∙ z)))
+    (item-withdrawing (s .args .bytes .now) (s .args .j) (q .before .timestamp-at .ensures) (λ z. e .if1 .left (q .kind-at .ensures ∙ z)))
 
 pub take-entry-spec : {M : Type 1} → statement M
 take-entry-spec =

@@ -28,6 +28,9 @@ sized c = c .before .before .before .before .before .before .before .before
 abbrev start : tie.After-fault → tie.Start
 start c = entry (sized c .before)
 
+abbrev faulted : tie.Else2 → tie.After-fault
+faulted c = c .before .before
+
 abbrev accepted : tie.After-take-entries-arg8 → tie.Else2
 accepted c = c .before .before .before .before .before .before .before .before
 
@@ -37,9 +40,9 @@ taken c = c .before .before .before .before .before .before .before .before .bef
 -- ---- needs
 
 -- no refusal
-passed : (c : tie.Else2) → let s = start (c .before .before) in Formed (s .args .n) (lent s) × (layoutFits (s .args .bytes .now) ≡ true)
+passed : (c : tie.Else2) → let s = start (faulted c) in Formed (s .args .n) (lent s) × (layoutFits (s .args .bytes .now) ≡ true)
 passed c =
-    let f = c .before .before in
+    let f = faulted c in
     let k = none-refused _ _ (c .before .refusal-with .ensures) (c .if2 .left) in
     (faultless _ (lent (start f)) (f .fault .ensures) (k .0), k .1)
 
@@ -48,13 +51,14 @@ returns c = package-wrong-length _ (lent (entry (c .before))) _ _ (c .if1 .taken
 
 returns-2 : tie.Need-returns-2
 returns-2 c =
-    let f = c .before .before in
-    package-refused _ (lent (start f)) _ _ (sized f .if1 .left) (c .before .refusal-with .ensures ∙ ap (λ (r : ℕ). refusalWith r (start f .args .bytes .now)) (f .fault .ensures)) (c .if2 .taken)
+    let w = c .before in
+    let f = w .before in
+    package-refused _ (lent (start f)) _ _ (sized f .if1 .left) (w .refusal-with .ensures ∙ ap (λ (r : ℕ). refusalWith r (start f .args .bytes .now)) (f .fault .ensures)) (c .if2 .taken)
 
 take-entries-requires : tie.Need-take-entries-requires
 take-entries-requires c κs =
     let e = accepted c in
-    let f = e .before .before in
+    let f = faulted e in
     record {
       laid-out = passed e .1;
       sized = sized f .if1 .left;
@@ -65,7 +69,7 @@ returns-3 : tie.Need-returns-3
 returns-3 c =
     let t = taken c in
     let e = accepted (t .before) in
-    t .take-entries .ensures .taken (lent (start (e .before .before))) (passed e .0)
+    t .take-entries .ensures .taken (lent (start (faulted e))) (passed e .0)
 
 pub take-in-package-spec : {M : Type 1} → statement M
 take-in-package-spec =

@@ -9,10 +9,13 @@ use Rattle.model.specs.Refusals.{sameBytes}
 use Rattle.taking.proofs.compare.Statement.{statement}
 use Rattle.taking.proofs.compare.Tie as tie
 
+abbrev entry : tie.After-same-bytes → tie.Start
+entry c = c .before .before .before .before .before .before
+
 -- the bytes that are compared
-compared : (c : tie.After-same-bytes) → let a = c .before .before .before .before .before .before .args in c .same-bytes .result ≡ sameBytes (programIn (a .lengths .now) (a .programs .now) (a .place)) (a .program .now)
+compared : (c : tie.After-same-bytes) → let a = entry c .args in c .same-bytes .result ≡ sameBytes (programIn (a .lengths .now) (a .programs .now) (a .place)) (a .program .now)
 compared c =
-    let a = c .before .before .before .before .before .before .args in
+    let a = entry c .args in
     let size = 8 * getD (a .lengths .now) (a .place) 0 in
     let e : 256 * a .place + size - 256 * a .place ≡ size = omega arith in
     c .same-bytes .ensures ∙ ap (λ (k : ℕ). sameBytes (slots 256 (a .place) k (a .programs .now)) (a .program .now)) e
