@@ -1,8 +1,8 @@
 /*
  * The power budget of a port, kept by three changes, one of which arrives late.
  *
- *     rt staticlib exports
- *     cc -std=c99 -Iinclude examples/power.c target/staticlib/libexports.a -o power
+ *     ./library
+ *     cc -std=c99 -Iinclude examples/power.c target/staticlib/libtolbezun.a -o power
  */
 #include "tolbezun.h"
 

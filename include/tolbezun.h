@@ -1,11 +1,11 @@
 /*
  * The proved change history of a cabinet of managed switches, for C.
  *
- * The functions are those of the static library `exports` (rt staticlib exports gives
- * target/staticlib/libexports.a). They are proved: for every argument the answer and what stands in
- * every table after the call is what the definitions in crates/model/specs/Calls say, the answer as
- * a number by crates/numbers/specs/Numbers. They allocate nothing, keep nothing between calls and end
- * on every input.
+ * The functions are those of the static library libtolbezun.a, which ./library proves, builds and
+ * leaves in target/staticlib. They are proved: for every argument the answer and what stands in every
+ * table after the call is what the definitions in crates/model/specs/Calls say, the answer as a number
+ * by crates/answer_numbers/specs/Numbers. They allocate nothing, keep nothing between calls and end on
+ * every input.
  *
  * Each table is lent as a pointer and the number of its entries (NAME_len). The caller sees to it that
  * a pointer is aligned and has that many initialised entries, that no table that a call may write

@@ -7,9 +7,18 @@ use std::path::{Path, PathBuf};
 use std::process::{exit, Command};
 use std::{env, fs};
 
+/// Has the ten calls proved and built as the product's static library by `./library`, and links it. Returns the archive.
+pub fn link_library() -> PathBuf {
+    link_archive(&["bash", "library"], "tolbezun")
+}
+
 /// Has the crate `name` proved and built as a static library, and links it. Returns the archive.
 pub fn link(name: &str) -> PathBuf {
-    let archive = build("staticlib", name, &format!("target/staticlib/lib{name}.a"));
+    link_archive(&["rt", "staticlib", name], name)
+}
+
+fn link_archive(command: &[&str], name: &str) -> PathBuf {
+    let archive = build(command, &format!("target/staticlib/lib{name}.a"));
     let folder = archive.parent().expect("this is the path of a file");
     println!("cargo::rustc-link-search=native={}", folder.display());
     println!("cargo::rustc-link-lib=static={name}");
@@ -18,24 +27,25 @@ pub fn link(name: &str) -> PathBuf {
 
 /// Has the crate `name` proved and built as a program. Returns the program.
 pub fn program(name: &str) -> PathBuf {
-    build("check", name, &format!("target/bin/{name}"))
+    build(&["rt", "check", name], &format!("target/bin/{name}"))
 }
 
-/// Has `rt` carry out this command for a crate, and returns a copy of the file that it leaves.
-fn build(command: &str, name: &str, file: &str) -> PathBuf {
+/// Has this command carried out in the repository, and returns a copy of the file that it leaves.
+fn build(command: &[&str], file: &str) -> PathBuf {
     let root = variable("CARGO_MANIFEST_DIR").join("../..");
-    for source in ["crates.txt", "crates"] {
+    for source in ["crates.txt", "crates", "library"] {
         watch(&root.join(source));
     }
     watch_kit();
-    let built = Command::new("rt")
-        .args([command, name])
+    let line = command.join(" ");
+    let built = Command::new(command[0])
+        .args(&command[1..])
         .current_dir(&root)
         .status();
     match built {
         Ok(status) if status.success() => {}
-        Ok(status) => fail(&format!("`rt {command} {name}` failed: {status}")),
-        Err(error) => fail(&format!("cannot run `rt {command} {name}`: {error}")),
+        Ok(status) => fail(&format!("`{line}` failed: {status}")),
+        Err(error) => fail(&format!("cannot run `{line}`: {error}")),
     }
 
     // `rt ci` removes the repository's target folder, so a copy is linked or run.
@@ -43,7 +53,7 @@ fn build(command: &str, name: &str, file: &str) -> PathBuf {
     let file_name = built.file_name().expect("this is the path of a file");
     let copy = variable("OUT_DIR").join(file_name);
     if let Err(error) = fs::copy(&built, &copy) {
-        fail(&format!("`rt {command} {name}` left no {file}: {error}"));
+        fail(&format!("`{line}` left no {file}: {error}"));
     }
     copy
 }

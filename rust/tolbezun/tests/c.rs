@@ -32,7 +32,7 @@ fn run(source: &Path) -> String {
     compile(&[
         Path::new("-std=c99"),
         source,
-        Path::new(env!("EXPORTS_ARCHIVE")),
+        Path::new(env!("ARCHIVE")),
         Path::new("-o"),
         &program,
     ]);

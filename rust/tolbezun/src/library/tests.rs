@@ -102,9 +102,14 @@ fn of_header() -> Vec<Function> {
     text.split(';').filter_map(function).collect()
 }
 
-/// The exported functions of the library's source.
+/// The crates whose exported functions are the library, in the header's order.
+const SOURCES: [&str; 3] = ["export_intake", "export_turns", "export_queries"];
+
+/// The exported functions of the library's sources.
 fn of_source() -> Vec<Function> {
-    let text = read("crates/exports/src/lib.rt");
+    let text = SOURCES
+        .map(|name| read(&format!("crates/{name}/src/lib.rt")))
+        .concat();
     let function = |declaration: &str| {
         let (name, rest) = declaration.split_once('(').expect("parameters");
         let (parameters, rest) = rest.split_once(')').expect("their end");
