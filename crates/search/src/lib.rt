@@ -1,8 +1,9 @@
-// Searches in the tables: a timestamp in the order list, and the write of a setting below a position of it.
+// Timestamps, and searches in the tables: a timestamp in the order list, and the write of a setting below a position of it.
 ghost use mathlib.Core.Path.{_≡_};
 ghost use Prim.Native.Nat.{_+_, _*_, _<_, _≤_};
 ghost use lib.ListN.{length, drop};
 ghost use Rattle.machine.specs.Settings.{lookup, entries};
+ghost use Rattle.model.specs.History.{isTimestamp};
 ghost use Rattle.search.specs.Searches.{rankOf, positionOf, foundOf, writtenOf, previousWrite, PlacesWithin, WriteLists};
 
 // The position in the order list of a timestamp.
@@ -15,6 +16,13 @@ pub enum Found {
 pub enum Written {
     Value(i32),
     Nothing,
+}
+
+// Whether a timestamp is from 1 to 2^64 - 2: not refusal 4.
+pub fn is_timestamp(t: u64) -> bool
+    ensures { λ r. ⌜ r ≡ isTimestamp t ⌝ }
+{
+    (0 < t) & (t < 18446744073709551615)
 }
 
 // How many of the first count changes of the order list are stamped below t, counted down from the highest.
