@@ -26,14 +26,14 @@ use Rattle.fresh.specs.HeldRuns.{runPlace, heldRun, HeldPrograms}
 use Rattle.fresh.proofs.Filled.{filled-all}
 
 -- tables in form have what the code relies on
-pub held-programs : {n : ℕ} {T : Tables} → Formed n T → HeldPrograms (heldCount T) (T .order) (T .withdrawn) (T .lengths) (T .programs)
-held-programs {n} {T} formed =
+pub held-programs : {n k : ℕ} {T : Tables} → Formed n T → k ≡ heldCount T → HeldPrograms k (T .order) (T .withdrawn) (T .lengths) (T .programs)
+held-programs {n} {k} {T} formed e =
     let g = facts formed .lengths in
     let f = facts formed .form in
     record {
       limit = heldCount T;
       small = omega (arith, g .capacity, f .small);
-      placed = record { long = omega (arith, g .order, f .small); below = f .places };
+      placed = record { long = omega (arith, g .order, f .small); below = λ j h. f .places j (omega arith) };
       flags = omega (arith, g .withdrawn, f .small);
       programmed =
           record {

@@ -5,7 +5,6 @@ use Prim.Native.Nat.{_+_, _-_, _≤_}
 use native.Mathlib.Omega.{arith}
 use borrow.Author.Needs.{needs}
 use borrow.Author.Tests.{not-true, not-false}
-use lib.ListN.{length}
 use Rattle.machine.specs.Form.{allBelow}
 use Rattle.machine.proofs.Form.{not-all-below}
 use Rattle.bytecode.proofs.Bounds.{all-below-next}

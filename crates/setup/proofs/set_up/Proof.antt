@@ -23,12 +23,14 @@ returns c = lengths-wrong _ (lent (entry (c .before))) (sym (c .before .lengths-
 right : (c : tie.Else1) → lengthsFit (entry (c .before) .args .n) (lent (entry (c .before))) ≡ true
 right c = sym (c .before .lengths-fit .ensures) ∙ not-false _ (c .if1 .left)
 
--- the place after the test, from that after a table is cleared
+-- the place after the test
 abbrev tested : tie.After-clear-u16 → tie.Else1
 tested c = c .before .before
 
+-- the places after each table is cleared, from the last
 pub set-up-spec : {M : Type 1} → statement M
 set-up-spec =
+    let filled : tie.After-view → tie.After-fill-start-arg = λ c. c .before .before in
     let written : tie.After-fill-start-arg → tie.After-clear-i322 = λ c. c .before .before in
     let targets : tie.After-fill-start-arg → tie.After-clear-u169 = λ c. written c .before .before .before .before in
     let seen : tie.After-fill-start-arg → tie.After-clear-i32 = λ c. targets c .before .before .before in
@@ -74,20 +76,21 @@ set-up-spec =
     (λ c κs. tt)
     (λ c κs. tt)
     (λ c κs. lengths-of _ _ (right (tested (held c))) .view)
-    (λ c. held (c .before .before) .clear-u16 .kept .0)
-    (λ c. timestamps (c .before .before) .clear-u64 .kept .0)
-    (λ c. order (c .before .before) .clear-u162 .kept .0)
-    (λ c. status (c .before .before) .clear-u163 .kept .0)
-    (λ c. withdrawn (c .before .before) .clear-u164 .kept .0)
-    (λ c. lengths (c .before .before) .clear-u165 .kept .0)
-    (λ c. programs (c .before .before) .clear-u8 .kept .0)
-    (λ c. reads (c .before .before) .clear-u166 .kept .0)
-    (λ c. writes (c .before .before) .clear-u167 .kept .0)
-    (λ c. sources (c .before .before) .clear-u168 .kept .0)
-    (λ c. seen (c .before .before) .clear-i32 .kept .0)
-    (λ c. targets (c .before .before) .clear-u169 .kept .0)
-    (λ c. written (c .before .before) .clear-i322 .kept .0)
+    (λ c. held (filled c) .clear-u16 .kept .0)
+    (λ c. timestamps (filled c) .clear-u64 .kept .0)
+    (λ c. order (filled c) .clear-u162 .kept .0)
+    (λ c. status (filled c) .clear-u163 .kept .0)
+    (λ c. withdrawn (filled c) .clear-u164 .kept .0)
+    (λ c. lengths (filled c) .clear-u165 .kept .0)
+    (λ c. programs (filled c) .clear-u8 .kept .0)
+    (λ c. reads (filled c) .clear-u166 .kept .0)
+    (λ c. writes (filled c) .clear-u167 .kept .0)
+    (λ c. sources (filled c) .clear-u168 .kept .0)
+    (λ c. seen (filled c) .clear-i32 .kept .0)
+    (λ c. targets (filled c) .clear-u169 .kept .0)
+    (λ c. written (filled c) .clear-i322 .kept .0)
     (λ c. c .before .fill-start .kept .0)
     (λ c.
-    let v = c .before .before in
-    all-cleared _ (lent (entry (tested (held v) .before))) (right (tested (held v))) (held v .clear-u16 .ensures) (timestamps v .clear-u64 .ensures) (order v .clear-u162 .ensures) (status v .clear-u163 .ensures) (withdrawn v .clear-u164 .ensures) (lengths v .clear-u165 .ensures) (programs v .clear-u8 .ensures) (reads v .clear-u166 .ensures) (writes v .clear-u167 .ensures) (sources v .clear-u168 .ensures) (seen v .clear-i32 .ensures) (targets v .clear-u169 .ensures) (written v .clear-i322 .ensures) (c .before .fill-start .ensures)))
+    let v = filled c in
+    all-cleared _ _ (right (tested (held v)))
+    (record { held = held v .clear-u16 .ensures; timestamps = timestamps v .clear-u64 .ensures; order = order v .clear-u162 .ensures; status = status v .clear-u163 .ensures; withdrawn = withdrawn v .clear-u164 .ensures; lengths = lengths v .clear-u165 .ensures; programs = programs v .clear-u8 .ensures; reads = reads v .clear-u166 .ensures; writes = writes v .clear-u167 .ensures; sources = sources v .clear-u168 .ensures; seen = seen v .clear-i32 .ensures; targets = targets v .clear-u169 .ensures; written = written v .clear-i322 .ensures; view = c .before .fill-start .ensures })))
