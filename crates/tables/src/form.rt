@@ -172,8 +172,5 @@ pub fn fault(
             targets,
             written,
         );
-    if !fits {
-        return 2;
-    }
-    0
+    if fits { 0 } else { 2 }
 }

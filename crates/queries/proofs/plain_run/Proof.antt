@@ -1,5 +1,5 @@
 -- `queries::plain_run` meets its contract: refused for a length or the tables, or what the held changes leave. Assumes nothing.
-use mathlib.Core.Path.{ap, _∙_}
+use mathlib.Core.Path.{refl, sym, ap, _∙_}
 use mathlib.Core.List.{List}
 use borrow.Author.Needs.{needs}
 use lib.IntN.{ℤ}
@@ -64,11 +64,11 @@ plain-run-spec =
     (λ c κs. tt)
     returns-2
     (λ c κs. facts (fits c) .lengths .held)
-    (λ c. search needs)
-    (λ c κs. search needs)
-    (λ c. search needs)
+    (λ c. refl)
+    (λ c κs. refl)
+    (λ c. sym (filled c .fill-start .kept .0))
     run-held-requires
     (λ c. search needs)
     (λ c κs. search needs)
-    (λ c. search needs)
+    (λ c. c .before .copy .kept .1 .0)
     returns-3)

@@ -67,10 +67,10 @@ tested c =
     form-tested _ _ (from-unused c .before .held-count .ensures) (from-unused c .if2 .left) (order .before .heads-fit .ensures) (order .order-fits .ensures) (reads .before .programs-fit .ensures) (reads .lists-fit .ensures) (c .before .lists-fit2 .ensures) (c .unused-fits .ensures)
 
 returns-3 : tie.Need-returns-3
-returns-3 c = form-wrong _ _ (right (sized (from-unused (c .before)))) (sym (tested (c .before)) ∙ not-true _ (c .if3 .taken))
+returns-3 c = none-wrong _ _ (right (sized (from-unused (c .before)))) (sym (tested (c .before)) ∙ c .if3 .taken)
 
 returns-4 : tie.Need-returns-4
-returns-4 c = none-wrong _ _ (right (sized (from-unused (c .before)))) (sym (tested (c .before)) ∙ not-false _ (c .if3 .left))
+returns-4 c = form-wrong _ _ (right (sized (from-unused (c .before)))) (sym (tested (c .before)) ∙ c .if3 .left)
 
 pub fault-spec : {M : Type 1} → statement M
 fault-spec =
