@@ -14,7 +14,7 @@ use Rattle.run_record.specs.declared.Run.{Run}
 use Rattle.run_record.specs.Record.{Lists, Ran}
 use Rattle.model.proofs.Entries.{entries-take}
 use Rattle.model.specs.Tables.{programIn, listIn}
-use Rattle.zeros.proofs.Parts.{used-part}
+use Rattle.machine.proofs.Parts.{used-part}
 use Rattle.acts.specs.Raw.{Runnable}
 
 -- a part of a table, as it is lent

@@ -12,26 +12,36 @@ use lib.Seq.{drop-cons, getD-set-same, getD-set-other}
 use Rattle.machine.specs.Settings.{settingCount}
 use Rattle.machine.proofs.Cases.{both}
 use Rattle.model.specs.Form.{holds, distinctSettings}
-use Rattle.form_lists.specs.Marks.{AllBelow, isNew}
+use Rattle.form_lists.specs.Marks.{MarkedBelow, isNew}
 
 -- marks that are 0 are below the first row's number
-pub zeros-below : (n : ℕ) → AllBelow 1 (replicate n 0)
+zeros-below : (n s : ℕ) → getD (replicate n 0) s 0 < 1
 zeros-below zero s = omega arith
 zeros-below (suc n) zero = omega arith
 zeros-below (suc n) (suc s) = zeros-below n s
 
+pub no-marks : MarkedBelow 1 (replicate 1024 0)
+no-marks = record { sized = refl; below = zeros-below 1024 }
+
+-- marks below a row's number are below a later row's
+pub marked-later : {row later : ℕ} {marks : List ℕ} → row ≤ later → MarkedBelow row marks → MarkedBelow later marks
+marked-later h m = record { sized = m .sized; below = λ s. omega (arith, m .below s) }
+
 -- a list's settings are distinct, and they are those that are marked with the row's number
 pub record Marked (row : ℕ) (l marks : List ℕ) : Type 0 where
   pub distinct : distinctSettings l ≡ true
-  pub sized : length marks ≡ settingCount
-  pub below : AllBelow (row + 1) marks
+  pub marked : MarkedBelow (row + 1) marks
   pub met : (s : ℕ) → holds s l ≡ eqb (getD marks s 0) row
 
 -- before the first setting, the last of the list, nothing is marked
-pub unmarked : (row : ℕ) (l marks : List ℕ) → length marks ≡ settingCount → AllBelow row marks → Marked row (drop (length l) l) marks
-unmarked row l marks z b =
+pub unmarked : (row : ℕ) (l marks : List ℕ) → MarkedBelow row marks → Marked row (drop (length l) l) marks
+unmarked row l marks m =
     rw (drop-of-length-le l {i = length l} (omega arith))
-    (record { distinct = refl; sized = z; below = λ s. omega (arith, b s); met = λ s. sym (ne-eqb (getD marks s 0) row (λ e. omega (arith, b s))) })
+    (record {
+      distinct = refl;
+      marked = marked-later (omega arith) m;
+      met = λ s. sym (ne-eqb (getD marks s 0) row (λ e. omega (arith, m .below s)));
+    })
 
 -- a list is not distinct where a part of it is not
 not-distinct : (i : ℕ) (l : List ℕ) → distinctSettings (drop i l) ≡ false → distinctSettings l ≡ false
@@ -54,8 +64,7 @@ module _ (l : List ℕ) (i k : ℕ) {row : ℕ} {marks after : List ℕ} {r : Bo
   passed q =
       record {
         distinct = sym answer ∙ q;
-        sized = rw (stored, length-set) (m .sized);
-        below = λ t. at t (ℕ-discrete t s) .0;
+        marked = record { sized = rw (stored, length-set) (m .marked .sized); below = λ t. at t (ℕ-discrete t s) .0 };
         met = λ t. at t (ℕ-discrete t s) .1;
       }
     where
@@ -63,23 +72,23 @@ module _ (l : List ℕ) (i k : ℕ) {row : ℕ} {marks after : List ℕ} {r : Bo
       s = getD l k 0
 
       inside : s < length marks
-      inside = rw (m .sized) (ltb-true s settingCount (both (ltb s settingCount) (sym (e .0) ∙ q) .0))
+      inside = rw (m .marked .sized) (ltb-true s settingCount (both (ltb s settingCount) (sym (e .0) ∙ q) .0))
 
       stored : after ≡ set marks s row
       stored = e .1 ∙ ap (λ t. cond t (set marks s row) marks) q
 
       at : (t : ℕ) → Dec (t ≡ s) → (getD after t 0 < row + 1) × (holds t (drop k l) ≡ eqb (getD after t 0) row)
       at t (yes p) = rw (here, stored, p, getD-set-same marks s row 0 inside, eq-eqb s s refl, eq-eqb row row refl) (omega arith, refl)
-      at t (no p) = rw (here, stored, getD-set-other marks s t row 0 p, ne-eqb s t (λ z. p (sym z))) (m .below t, m .met t)
+      at t (no p) = rw (here, stored, getD-set-other marks s t row 0 p, ne-eqb s t (λ z. p (sym z))) (m .marked .below t, m .met t)
 
   -- the marks in any case
-  pub kept : (length after ≡ settingCount) × AllBelow (row + 1) after
+  pub kept : MarkedBelow (row + 1) after
   kept = go r refl
     where
-      go : (t : Bool) → r ≡ t → (length after ≡ settingCount) × AllBelow (row + 1) after
-      go true q = (passed q .sized, passed q .below)
-      go false q = rw (e .1, q) (m .sized, m .below)
+      go : (t : Bool) → r ≡ t → MarkedBelow (row + 1) after
+      go true q = passed q .marked
+      go false q = rw (e .1, q) (m .marked)
 
   -- the list where it is not new
-  pub failed : r ≡ false → (false ≡ distinctSettings l) × (length after ≡ settingCount) × AllBelow (row + 1) after
-  failed q = (sym (not-distinct k l (sym answer ∙ q)), kept .0, kept .1)
+  pub failed : r ≡ false → (false ≡ distinctSettings l) × MarkedBelow (row + 1) after
+  failed q = (sym (not-distinct k l (sym answer ∙ q)), kept)

@@ -3,15 +3,18 @@ use zeros::all_zero_i32;
 use zeros::all_zero_u16;
 ghost use mathlib.Core.Path.{_≡_};
 ghost use mathlib.Core.Bool.{cond};
-ghost use Prim.Native.Nat.{_+_, _*_, _<_, _≤_};
-ghost use lib.ListN.{length, set};
+ghost use Prim.Native.Nat.{_+_};
+ghost use lib.ListN.{set};
 ghost use Rattle.machine.specs.Form.{allBelow};
 ghost use Rattle.model.specs.Form.{distinctSettings, listFits};
-ghost use Rattle.form_lists.specs.Marks.{AllBelow, isNew};
+ghost use Rattle.form_lists.specs.Marks.{ListSlots, MarkedBelow, isNew};
 
 // Whether a setting is below 1,024 and not marked with the row's number. If so, it is marked.
 fn mark(setting: u16, marks: &mut [u16; 1024], row: u16) -> bool
-    ensures { λ r. ⌜ (r ≡ isNew row setting (now (marks .entry))) × (now (marks .exit) ≡ cond r (set (now (marks .entry)) setting row) (now (marks .entry))) ⌝ }
+    ensures { λ r. ⌜
+        (r ≡ isNew row setting (now (marks .entry)))
+        × (now (marks .exit) ≡ cond r (set (now (marks .entry)) setting row) (now (marks .entry)))
+        ⌝ }
 {
     let s = setting as usize;
     if 1024 <= s {
@@ -26,8 +29,8 @@ fn mark(setting: u16, marks: &mut [u16; 1024], row: u16) -> bool
 
 // Whether the settings are below 1,024 and none stands twice. Each is marked once it was met, two a turn.
 fn distinct_settings(settings: &[u16], marks: &mut [u16; 1024], row: u16) -> bool
-    requires { ⌜ (length (now marks) ≡ 1024) × AllBelow row (now marks) ⌝ }
-    ensures { λ r. ⌜ (r ≡ distinctSettings (now (settings .entry))) × (length (now (marks .exit)) ≡ 1024) × AllBelow (row + 1) (now (marks .exit)) ⌝ }
+    requires { ⌜ MarkedBelow row (now marks) ⌝ }
+    ensures { λ r. ⌜ (r ≡ distinctSettings (now (settings .entry))) × MarkedBelow (row + 1) (now (marks .exit)) ⌝ }
 {
     let mut i = settings.len();
     while 1 < i {
@@ -53,8 +56,11 @@ fn list_fits(
     values: &[i32],
     marks: &mut [u16; 1024],
 ) -> bool
-    requires { ⌜ (i < 4096) × (i < length (now counts)) × (32 * i + 32 ≤ length (now settings)) × (32 * i + 32 ≤ length (now values)) × (length (now marks) ≡ 1024) × AllBelow (i + 1) (now marks) ⌝ }
-    ensures { λ r. ⌜ (r ≡ listFits (now (counts .entry)) (now (settings .entry)) (now (values .entry)) i) × (length (now (marks .exit)) ≡ 1024) × AllBelow (i + 2) (now (marks .exit)) ⌝ }
+    requires { ⌜ ListSlots (i + 1) (now counts) (now settings) (now values) × MarkedBelow (i + 1) (now marks) ⌝ }
+    ensures { λ r. ⌜
+        (r ≡ listFits (now (counts .entry)) (now (settings .entry)) (now (values .entry)) i)
+        × MarkedBelow (i + 2) (now (marks .exit))
+        ⌝ }
 {
     let count = counts[i] as usize;
     if 32 < count {
@@ -69,7 +75,7 @@ fn list_fits(
 
 // Whether the lists of the first count places have at most 32 entries, of distinct settings, with zeros behind them.
 pub fn lists_fit(count: usize, counts: &[u16], settings: &[u16], values: &[i32]) -> bool
-    requires { ⌜ (count ≤ 4096) × (count ≤ length (now counts)) × (32 * count ≤ length (now settings)) × (32 * count ≤ length (now values)) ⌝ }
+    requires { ⌜ ListSlots count (now counts) (now settings) (now values) ⌝ }
     ensures { λ r. ⌜ r ≡ allBelow count (listFits (now (counts .entry)) (now (settings .entry)) (now (values .entry))) ⌝ }
 {
     let mut marks = [0u16; 1024];

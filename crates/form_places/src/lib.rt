@@ -1,5 +1,6 @@
 // The tests of the held places: their heads, their order and their programs. Tests are joined by `&`, with no branch between them.
 use bytecode::form::well_formed;
+use search::is_timestamp;
 use zeros::all_zero_u8;
 ghost use mathlib.Core.Path.{_≡_};
 ghost use mathlib.Core.List.{[], _∷_};
@@ -12,8 +13,7 @@ ghost use Rattle.model.specs.Form.{headFits, programFits, orderFits};
 fn head_fits(timestamp: u64, status: u16, withdrawn: u16, reads: u16, writes: u16) -> bool
     ensures { λ r. ⌜ r ≡ headFits (timestamp ∷ []) (status ∷ []) (withdrawn ∷ []) (reads ∷ []) (writes ∷ []) 0 ⌝ }
 {
-    (0 < timestamp)
-        & (timestamp < 18446744073709551615)
+    is_timestamp(timestamp)
         & (status <= 2)
         & (withdrawn <= 1)
         & ((status != 0) | ((reads == 0) & (writes == 0)))
@@ -28,8 +28,15 @@ pub fn heads_fit(
     reads: &[u16],
     writes: &[u16],
 ) -> bool
-    requires { ⌜ (count ≤ length (now timestamps)) × (count ≤ length (now status)) × (count ≤ length (now withdrawn)) × (count ≤ length (now reads)) × (count ≤ length (now writes)) ⌝ }
-    ensures { λ r. ⌜ r ≡ allBelow count (headFits (now (timestamps .entry)) (now (status .entry)) (now (withdrawn .entry)) (now (reads .entry)) (now (writes .entry))) ⌝ }
+    requires { ⌜
+        (count ≤ length (now timestamps)) × (count ≤ length (now status)) × (count ≤ length (now withdrawn))
+        × (count ≤ length (now reads)) × (count ≤ length (now writes))
+        ⌝ }
+    ensures { λ r. ⌜
+        r
+        ≡ allBelow count
+        (headFits (now (timestamps .entry)) (now (status .entry)) (now (withdrawn .entry)) (now (reads .entry)) (now (writes .entry)))
+        ⌝ }
 {
     let mut fits = true;
     let mut i = 0;

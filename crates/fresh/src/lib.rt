@@ -9,7 +9,8 @@ ghost use Rattle.machine.specs.Settings.{valueIn, carry};
 ghost use Rattle.machine.specs.Form.{wellFormed};
 ghost use Rattle.machine.specs.Run.{run};
 ghost use Rattle.model.specs.History.{start, allSettings};
-ghost use Rattle.fresh.specs.HeldRuns.{heldRun, Runnable};
+ghost use Rattle.model.specs.Tables.{programIn};
+ghost use Rattle.fresh.specs.HeldRuns.{heldRun, HeldPrograms};
 
 // The start value of a setting.
 pub fn start_value(s: usize) -> i32
@@ -59,8 +60,14 @@ pub fn run_held(
     programs: &[u8],
     values: &mut [i32],
 )
-    requires { ⌜ Runnable count (now order) (now withdrawn) (now lengths) (now programs) × (length (now values) ≡ 1024) ⌝ }
-    ensures { λ _. ⌜ now (values .exit) ≡ heldRun (now (order .entry)) (now (withdrawn .entry)) (now (lengths .entry)) (now (programs .entry)) (now (values .entry)) count ⌝ }
+    requires { ⌜
+        HeldPrograms count (now order) (now withdrawn) (now lengths) (now programs) × (length (now values) ≡ 1024)
+        ⌝ }
+    ensures { λ _. ⌜
+        now (values .exit)
+        ≡ heldRun (now (order .entry)) (now (withdrawn .entry)) (programIn (now (lengths .entry)) (now (programs .entry)))
+        (now (values .entry)) count
+        ⌝ }
 {
     let mut k = 0;
     while k < count {

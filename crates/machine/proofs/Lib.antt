@@ -4,3 +4,4 @@ pub mod Form
 pub mod Step
 pub mod Frame
 pub mod Lists
+pub mod Parts

@@ -6,13 +6,28 @@ use model::Answer;
 use model::Standing;
 use model::Value;
 use search::Found;
+use search::is_timestamp;
 use search::position;
 use search::rank;
 use tables::form::fault;
+use tables::held_count;
 ghost use mathlib.Core.Path.{_≡_};
 ghost use lib.ListN.{length};
 ghost use Rattle.model.specs.Tables.{tables};
 ghost use Rattle.model.specs.Calls.{currentValue, valueAsOf, standing, plainReply, plainRun};
+ghost use Rattle.search.specs.Searches.{PlacesWithin, WriteLists};
+ghost use Rattle.queries.specs.Queries.{viewed, valuedAt, standingAt};
+
+// The value of a setting in the view, or refusal 5.
+fn setting_value(view: &[i32], setting: usize) -> Value
+    requires { ⌜ length (now view) ≡ 1024 ⌝ }
+    ensures { λ r. ⌜ r ≡ viewed (now (view .entry)) setting ⌝ }
+{
+    if setting < 1024 {
+        return Value::Is(view[setting]);
+    }
+    Value::Refused(5)
+}
 
 // The current value of a setting, from the view.
 pub fn current_value(
@@ -33,7 +48,13 @@ pub fn current_value(
     view: &[i32],
     setting: usize,
 ) -> Value
-    ensures { λ r. ⌜ r ≡ currentValue n (tables (now (held .entry)) (now (timestamps .entry)) (now (order .entry)) (now (status .entry)) (now (withdrawn .entry)) (now (lengths .entry)) (now (programs .entry)) (now (reads .entry)) (now (writes .entry)) (now (sources .entry)) (now (seen .entry)) (now (targets .entry)) (now (written .entry)) (now (view .entry))) setting ⌝ }
+    ensures { λ r. ⌜
+        (let T =
+        tables (now (held .entry)) (now (timestamps .entry)) (now (order .entry)) (now (status .entry)) (now (withdrawn .entry))
+        (now (lengths .entry)) (now (programs .entry)) (now (reads .entry)) (now (writes .entry)) (now (sources .entry))
+        (now (seen .entry)) (now (targets .entry)) (now (written .entry)) (now (view .entry)) in
+        r ≡ currentValue n T setting)
+        ⌝ }
 {
     let refusal = fault(
         n,
@@ -55,10 +76,38 @@ pub fn current_value(
     if refusal != 0 {
         return Value::Refused(refusal);
     }
-    if setting < 1024 {
-        return Value::Is(view[setting]);
+    setting_value(view, setting)
+}
+
+// The value of a setting as of a timestamp among the first count changes of the order list, or refusal 4 or 5.
+fn value_at(
+    timestamp: u64,
+    setting: usize,
+    count: usize,
+    order: &[u16],
+    timestamps: &[u64],
+    writes: &[u16],
+    targets: &[u16],
+    written: &[i32],
+) -> Value
+    requires { ⌜
+        PlacesWithin count (now order) (length (now timestamps)) × (length (now writes) ≡ length (now timestamps))
+        × WriteLists (now writes) (now targets) (now written)
+        ⌝ }
+    ensures { λ r. ⌜
+        r
+        ≡ valuedAt (now (order .entry)) (now (timestamps .entry)) (now (writes .entry)) (now (targets .entry)) (now (written .entry))
+        count timestamp setting
+        ⌝ }
+{
+    if timestamp == 0 {
+        return Value::Refused(4);
     }
-    Value::Refused(5)
+    if 1024 <= setting {
+        return Value::Refused(5);
+    }
+    let k = rank(timestamp, count, order, timestamps);
+    Value::Is(value_below(setting as u16, k, order, writes, targets, written))
 }
 
 // The value of a setting as of a timestamp: the highest write stamped below it, else the start.
@@ -81,7 +130,13 @@ pub fn value_as_of(
     timestamp: u64,
     setting: usize,
 ) -> Value
-    ensures { λ r. ⌜ r ≡ valueAsOf n (tables (now (held .entry)) (now (timestamps .entry)) (now (order .entry)) (now (status .entry)) (now (withdrawn .entry)) (now (lengths .entry)) (now (programs .entry)) (now (reads .entry)) (now (writes .entry)) (now (sources .entry)) (now (seen .entry)) (now (targets .entry)) (now (written .entry)) (now (view .entry))) timestamp setting ⌝ }
+    ensures { λ r. ⌜
+        (let T =
+        tables (now (held .entry)) (now (timestamps .entry)) (now (order .entry)) (now (status .entry)) (now (withdrawn .entry))
+        (now (lengths .entry)) (now (programs .entry)) (now (reads .entry)) (now (writes .entry)) (now (sources .entry))
+        (now (seen .entry)) (now (targets .entry)) (now (written .entry)) (now (view .entry)) in
+        r ≡ valueAsOf n T timestamp setting)
+        ⌝ }
 {
     let refusal = fault(
         n,
@@ -103,14 +158,47 @@ pub fn value_as_of(
     if refusal != 0 {
         return Value::Refused(refusal);
     }
-    if timestamp == 0 {
-        return Value::Refused(4);
+    let count = held_count(held);
+    value_at(
+        timestamp,
+        setting,
+        count,
+        order,
+        timestamps,
+        writes,
+        targets,
+        written,
+    )
+}
+
+// The status and flag of the change of a timestamp among the first count of the order list, or refusal 4 or 10.
+fn standing_at(
+    timestamp: u64,
+    count: usize,
+    order: &[u16],
+    timestamps: &[u64],
+    status: &[u16],
+    withdrawn: &[u16],
+) -> Standing
+    requires { ⌜
+        PlacesWithin count (now order) (length (now timestamps)) × (length (now status) ≡ length (now timestamps))
+        × (length (now withdrawn) ≡ length (now timestamps))
+        ⌝ }
+    ensures { λ r. ⌜
+        r
+        ≡ standingAt (now (order .entry)) (now (timestamps .entry)) (now (status .entry)) (now (withdrawn .entry)) count timestamp
+        ⌝ }
+{
+    if !is_timestamp(timestamp) {
+        return Standing::Refused(4);
     }
-    if 1024 <= setting {
-        return Value::Refused(5);
+    match position(timestamp, count, order, timestamps) {
+        Found::At(k) => {
+            let place = order[k] as usize;
+            Standing::At(status[place], withdrawn[place])
+        }
+        Found::Nothing => Standing::Refused(10),
     }
-    let k = rank(timestamp, held[0] as usize, order, timestamps);
-    Value::Is(value_below(setting as u16, k, order, writes, targets, written))
 }
 
 // The standing of a timestamp: status and flag.
@@ -132,7 +220,13 @@ pub fn standing(
     view: &[i32],
     timestamp: u64,
 ) -> Standing
-    ensures { λ r. ⌜ r ≡ standing n (tables (now (held .entry)) (now (timestamps .entry)) (now (order .entry)) (now (status .entry)) (now (withdrawn .entry)) (now (lengths .entry)) (now (programs .entry)) (now (reads .entry)) (now (writes .entry)) (now (sources .entry)) (now (seen .entry)) (now (targets .entry)) (now (written .entry)) (now (view .entry))) timestamp ⌝ }
+    ensures { λ r. ⌜
+        (let T =
+        tables (now (held .entry)) (now (timestamps .entry)) (now (order .entry)) (now (status .entry)) (now (withdrawn .entry))
+        (now (lengths .entry)) (now (programs .entry)) (now (reads .entry)) (now (writes .entry)) (now (sources .entry))
+        (now (seen .entry)) (now (targets .entry)) (now (written .entry)) (now (view .entry)) in
+        r ≡ standing n T timestamp)
+        ⌝ }
 {
     let refusal = fault(
         n,
@@ -154,17 +248,8 @@ pub fn standing(
     if refusal != 0 {
         return Standing::Refused(refusal);
     }
-    if timestamp == 0 || timestamp == 18446744073709551615 {
-        return Standing::Refused(4);
-    }
-    let count = held[0] as usize;
-    match position(timestamp, count, order, timestamps) {
-        Found::At(k) => {
-            let place = order[k] as usize;
-            Standing::At(status[place], withdrawn[place])
-        }
-        Found::Nothing => Standing::Refused(10),
-    }
+    let count = held_count(held);
+    standing_at(timestamp, count, order, timestamps, status, withdrawn)
 }
 
 // The values put into a slice.
@@ -198,7 +283,13 @@ pub fn plain_run(
     view: &[i32],
     settings: &mut [i32],
 ) -> Answer
-    ensures { λ r. ⌜ plainReply r (now (settings .exit)) ≡ plainRun n (tables (now (held .entry)) (now (timestamps .entry)) (now (order .entry)) (now (status .entry)) (now (withdrawn .entry)) (now (lengths .entry)) (now (programs .entry)) (now (reads .entry)) (now (writes .entry)) (now (sources .entry)) (now (seen .entry)) (now (targets .entry)) (now (written .entry)) (now (view .entry))) (now (settings .entry)) ⌝ }
+    ensures { λ r. ⌜
+        (let T =
+        tables (now (held .entry)) (now (timestamps .entry)) (now (order .entry)) (now (status .entry)) (now (withdrawn .entry))
+        (now (lengths .entry)) (now (programs .entry)) (now (reads .entry)) (now (writes .entry)) (now (sources .entry))
+        (now (seen .entry)) (now (targets .entry)) (now (written .entry)) (now (view .entry)) in
+        plainReply r (now (settings .exit)) ≡ plainRun n T (now (settings .entry)))
+        ⌝ }
 {
     if settings.len() != 1024 {
         return Answer::Refused(1);
@@ -223,7 +314,7 @@ pub fn plain_run(
     if refusal != 0 {
         return Answer::Refused(refusal);
     }
-    let count = held[0] as usize;
+    let count = held_count(held);
     let mut values = [0i32; 1024];
     fill_start(&mut values);
     run_held(count, order, withdrawn, lengths, programs, &mut values);

@@ -5,7 +5,7 @@ use Prim.Native.Nat.{ℕ, _-_, _<_}
 use native.Mathlib.Omega.{arith}
 use lib.ListN.{length, getD, take, drop}
 use Rattle.machine.specs.Settings.{settingCount}
-use Rattle.zeros.proofs.Parts.{used-part}
+use Rattle.machine.proofs.Parts.{used-part}
 use Rattle.marking.specs.Raw.{listAt}
 use Rattle.acts.proofs.Parts.{part}
 

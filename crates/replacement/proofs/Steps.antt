@@ -6,7 +6,7 @@ use native.Mathlib.Omega.{arith}
 use lib.IntN.{ℤ, pos}
 use lib.ListN.{length, getD, set, take, drop, replicate}
 use Rattle.machine.specs.Settings.{settingCount, Environment}
-use Rattle.zeros.proofs.Parts.{used-part}
+use Rattle.machine.proofs.Parts.{used-part}
 use Rattle.execution.specs.Raw.{oldValues, newValues, markedLive, markedValues}
 use Rattle.marking.specs.Raw.{markedStatus, liveAfter, followed}
 use Rattle.acts.proofs.Parts.{part}

@@ -1,23 +1,23 @@
 -- One step of each search, counting down.
 use mathlib.Core.Path.{_≡_, refl, sym, ap, _∙_}
-use mathlib.Core.Bool.{cond}
+use mathlib.Core.Bool.{cond, _&&_}
 use mathlib.Core.List.{List, [], _∷_}
 use mathlib.Core.Option.{Option, none, some}
 use Prim.Native.Nat.{ℕ, zero, suc, _+_, _-_, _<_, _≤_}
 use native.Mathlib.Numerals.{sub-one}
 use native.Mathlib.Omega.{arith}
-use borrow.Author.Tests.{lt-ltb, le-ltb, eq-eqb, ne-eqb}
+use borrow.Author.Tests.{ltb-true, lt-ltb, le-ltb, eq-eqb, ne-eqb}
 use lib.Dec.{eqb, ltb}
 use lib.IntN.{ℤ, pos}
 use lib.ListN.{length, getD, drop, length-drop}
 use lib.Seq.{getD-drop}
 use Rattle.machine.specs.Settings.{_orIf_, entries, lookup}
-use Rattle.machine.proofs.Cases.{by-test}
+use Rattle.machine.proofs.Cases.{by-test, both}
 use Rattle.model.specs.Form.{timestampOf}
 use Rattle.model.specs.Tables.{listIn}
 use Rattle.search.specs.declared.Written.{Written}
 use Rattle.search.specs.declared.Written.the-variants.{Value, Nothing}
-use Rattle.search.specs.Searches.{rankOf, writtenOf, previousWrite}
+use Rattle.search.specs.Searches.{rankOf, positionOf, writtenOf, previousWrite}
 use Rattle.search.proofs.Answers.{written-value, written-nothing}
 
 -- ---- the rank of a timestamp
@@ -42,6 +42,14 @@ rank-within order timestamps t zero = omega arith
 rank-within order timestamps t (suc m) =
     let ih = rank-within order timestamps t m in
     by-test (_≤ suc m) (ltb (timestampOf order timestamps m) t) (λ b. omega arith) (λ b. omega arith)
+
+-- a position that is found among count changes is below count
+pub position-below : (order timestamps : List ℕ) (t count : ℕ) {k : ℕ} → positionOf order timestamps t count ≡ some k → k < count
+position-below order timestamps t count {k} e =
+    let r = rankOf order timestamps t count in
+    by-test (λ (x : Option ℕ). x ≡ some k → k < count) (ltb r count && eqb (timestampOf order timestamps r) t)
+    (λ b q. let w : r ≡ k = cc in rw w at (ltb-true r count (both (ltb r count) b .0)))
+    (λ b q. absurd (let z : _≡_ {A = ℕ} 0 1 = cc in omega arith)) e
 
 -- ---- a write list, from its last entry
 

@@ -1,10 +1,9 @@
 -- Set up on tables: refused with the tables as they were, or the tables of an empty cabinet.
 use mathlib.Core.Path.{_≡_, ap, _∙_}
 use mathlib.Core.Bool.{true, false}
-use mathlib.Core.List.{List}
 use Prim.Native.Nat.{ℕ, _-_, _*_}
 use native.Mathlib.Omega.{arith}
-use lib.IntN.{ℤ, pos}
+use lib.IntN.{pos}
 use lib.ListN.{length, replicate}
 use Rattle.model.specs.declared.Answer.the-variants as answer
 use Rattle.model.specs.History.{start, allSettings}
@@ -30,34 +29,33 @@ empty-tables n =
     let values = recounted (pos 0) slots in
     λ j. tables (replicate 1 0) (column j) (column j) (column j) (column j) (column j) (recounted {A = ℕ} 0 bytes j) (column j) (column j) (settings j) (values j) (settings j) (values j) (allSettings start)
 
+-- the tables U are the tables T cleared: zeros, as many as there were, and the view is the start
+pub record Cleared (T U : Tables) : Type 0 where
+  pub held : U .held ≡ replicate (length (T .held)) 0
+  pub timestamps : U .timestamps ≡ replicate (length (T .timestamps)) 0
+  pub order : U .order ≡ replicate (length (T .order)) 0
+  pub status : U .status ≡ replicate (length (T .status)) 0
+  pub withdrawn : U .withdrawn ≡ replicate (length (T .withdrawn)) 0
+  pub lengths : U .lengths ≡ replicate (length (T .lengths)) 0
+  pub programs : U .programs ≡ replicate (length (T .programs)) 0
+  pub reads : U .reads ≡ replicate (length (T .reads)) 0
+  pub writes : U .writes ≡ replicate (length (T .writes)) 0
+  pub sources : U .sources ≡ replicate (length (T .sources)) 0
+  pub seen : U .seen ≡ replicate (length (T .seen)) (pos 0)
+  pub targets : U .targets ≡ replicate (length (T .targets)) 0
+  pub written : U .written ≡ replicate (length (T .written)) (pos 0)
+  pub view : U .view ≡ allSettings start
+
 module _ (n : ℕ) (T : Tables) where
   pub lengths-wrong : lengthsFit n T ≡ false → reply (answer.Refused 1) T ≡ setUp n T
   unfolding setUp
   lengths-wrong e = rw e
 
-  -- every table is cleared, and the view is the start
-  pub all-cleared :
-      {held timestamps order status withdrawn lengths programs reads writes sources targets : List ℕ} {seen written view : List ℤ}
-      → lengthsFit n T ≡ true
-      → held ≡ replicate (length (T .held)) 0
-      → timestamps ≡ replicate (length (T .timestamps)) 0
-      → order ≡ replicate (length (T .order)) 0
-      → status ≡ replicate (length (T .status)) 0
-      → withdrawn ≡ replicate (length (T .withdrawn)) 0
-      → lengths ≡ replicate (length (T .lengths)) 0
-      → programs ≡ replicate (length (T .programs)) 0
-      → reads ≡ replicate (length (T .reads)) 0
-      → writes ≡ replicate (length (T .writes)) 0
-      → sources ≡ replicate (length (T .sources)) 0
-      → seen ≡ replicate (length (T .seen)) (pos 0)
-      → targets ≡ replicate (length (T .targets)) 0
-      → written ≡ replicate (length (T .written)) (pos 0)
-      → view ≡ allSettings start
-      → reply answer.Done (tables held timestamps order status withdrawn lengths programs reads writes sources seen targets written view) ≡ setUp n T
+  pub all-cleared : {U : Tables} → lengthsFit n T ≡ true → Cleared T U → reply answer.Done U ≡ setUp n T
   unfolding setUp
-  all-cleared e held timestamps order status withdrawn lengths programs reads writes sources seen targets written view =
+  all-cleared e c =
       let g = lengths-of n T e in
       rw (e, empty-tables n)
       (λ j.
       reply answer.Done
-      (tables ((held ∙ recounted 0 (g .held)) j) ((timestamps ∙ recounted 0 (g .timestamps)) j) ((order ∙ recounted 0 (g .order)) j) ((status ∙ recounted 0 (g .status)) j) ((withdrawn ∙ recounted 0 (g .withdrawn)) j) ((lengths ∙ recounted 0 (g .lengths)) j) ((programs ∙ recounted 0 (g .programs)) j) ((reads ∙ recounted 0 (g .reads)) j) ((writes ∙ recounted 0 (g .writes)) j) ((sources ∙ recounted 0 (g .sources)) j) ((seen ∙ recounted (pos 0) (g .seen)) j) ((targets ∙ recounted 0 (g .targets)) j) ((written ∙ recounted (pos 0) (g .written)) j) (view j)))
+      (tables ((c .held ∙ recounted 0 (g .held)) j) ((c .timestamps ∙ recounted 0 (g .timestamps)) j) ((c .order ∙ recounted 0 (g .order)) j) ((c .status ∙ recounted 0 (g .status)) j) ((c .withdrawn ∙ recounted 0 (g .withdrawn)) j) ((c .lengths ∙ recounted 0 (g .lengths)) j) ((c .programs ∙ recounted 0 (g .programs)) j) ((c .reads ∙ recounted 0 (g .reads)) j) ((c .writes ∙ recounted 0 (g .writes)) j) ((c .sources ∙ recounted 0 (g .sources)) j) ((c .seen ∙ recounted (pos 0) (g .seen)) j) ((c .targets ∙ recounted 0 (g .targets)) j) ((c .written ∙ recounted (pos 0) (g .written)) j) (c .view j)))

@@ -27,24 +27,34 @@ pub fn set_up(
     written: &mut [i32],
     view: &mut [i32],
 ) -> Answer
-    ensures { λ r. ⌜ reply r (tables (now (held .exit)) (now (timestamps .exit)) (now (order .exit)) (now (status .exit)) (now (withdrawn .exit)) (now (lengths .exit)) (now (programs .exit)) (now (reads .exit)) (now (writes .exit)) (now (sources .exit)) (now (seen .exit)) (now (targets .exit)) (now (written .exit)) (now (view .exit))) ≡ setUp n (tables (now (held .entry)) (now (timestamps .entry)) (now (order .entry)) (now (status .entry)) (now (withdrawn .entry)) (now (lengths .entry)) (now (programs .entry)) (now (reads .entry)) (now (writes .entry)) (now (sources .entry)) (now (seen .entry)) (now (targets .entry)) (now (written .entry)) (now (view .entry))) ⌝ }
+    ensures { λ r. ⌜
+        (let T =
+        tables (now (held .entry)) (now (timestamps .entry)) (now (order .entry)) (now (status .entry)) (now (withdrawn .entry))
+        (now (lengths .entry)) (now (programs .entry)) (now (reads .entry)) (now (writes .entry)) (now (sources .entry))
+        (now (seen .entry)) (now (targets .entry)) (now (written .entry)) (now (view .entry)) in
+        reply r
+        (tables (now (held .exit)) (now (timestamps .exit)) (now (order .exit)) (now (status .exit)) (now (withdrawn .exit))
+        (now (lengths .exit)) (now (programs .exit)) (now (reads .exit)) (now (writes .exit)) (now (sources .exit))
+        (now (seen .exit)) (now (targets .exit)) (now (written .exit)) (now (view .exit)))
+        ≡ setUp n T)
+        ⌝ }
 {
     if !lengths_fit(
         n,
-        held.len(),
-        timestamps.len(),
-        order.len(),
-        status.len(),
-        withdrawn.len(),
-        lengths.len(),
-        programs.len(),
-        reads.len(),
-        writes.len(),
-        sources.len(),
-        seen.len(),
-        targets.len(),
-        written.len(),
-        view.len(),
+        held,
+        timestamps,
+        order,
+        status,
+        withdrawn,
+        lengths,
+        programs,
+        reads,
+        writes,
+        sources,
+        seen,
+        targets,
+        written,
+        view,
     ) {
         return Answer::Refused(1);
     }

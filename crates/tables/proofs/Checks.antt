@@ -2,13 +2,15 @@
 use mathlib.Core.Path.{_≡_, refl, sym, ap, ap₂, _∙_}
 use mathlib.Core.Bool.{Bool, true, false, _&&_, and-true, and-assoc}
 use mathlib.Core.List.{List, [], _∷_}
-use Prim.Native.Nat.{ℕ, _<_}
-use borrow.Author.Tests.{lt-leb}
-use lib.ListN.{length}
+use Prim.Native.Nat.{ℕ, _≤_, _<_}
+use native.Mathlib.Omega.{arith}
+use borrow.Author.Tests.{le-leb, lt-leb}
 use Rattle.model.specs.Tables.{Tables, heldCount}
-use Rattle.model.specs.Form.{every, lengthTests, lengthsFit, inForm}
+use lib.Dec.{leb}
+use lib.ListN.{drop}
+use Rattle.machine.specs.Form.{allBelow}
+use Rattle.model.specs.Form.{every, lengthTests, lengthsFit, headFits, orderFits, programFits, listFits, unusedFits, inForm}
 use Rattle.model.specs.Refusals.{faultOf}
-use Rattle.tables.specs.Lengths.{lengthNumbersFit}
 
 -- ---- several tests
 
@@ -34,15 +36,36 @@ no-more = refl
 
 -- ---- lengths and form
 
--- more places are held than there are
-pub too-many : (n : ℕ) (T : Tables) → n < heldCount T → false ≡ inForm n T
-unfolding inForm
-too-many n T h = rw (lt-leb (heldCount T) n h)
+module _ (n : ℕ) (T : Tables) where
+  -- the capacity is out of range
+  pub out-of-range : (leb 1 n && leb n 4096) ≡ false → false ≡ lengthsFit n T
+  unfolding lengthsFit
+  out-of-range e = rw e at (join true (lengthTests n T))
 
--- the test of the lengths, on tables
-pub lengths-numbers : (n : ℕ) (T : Tables) → lengthNumbersFit n (length (T .held)) (length (T .timestamps)) (length (T .order)) (length (T .status)) (length (T .withdrawn)) (length (T .lengths)) (length (T .programs)) (length (T .reads)) (length (T .writes)) (length (T .sources)) (length (T .seen)) (length (T .targets)) (length (T .written)) (length (T .view)) ≡ lengthsFit n T
-unfolding lengthNumbersFit lengthsFit
-lengths-numbers n T = join true (lengthTests n T)
+  -- it is in range, and the tests of the lengths are joined one by one
+  pub lengths-tested : (leb 1 n && leb n 4096) ≡ true → joined true (drop 2 (lengthTests n T)) ≡ lengthsFit n T
+  unfolding lengthsFit
+  lengths-tested e = rw e at (join true (lengthTests n T))
+
+module _ (n : ℕ) (T : Tables) {k : ℕ} (e : k ≡ heldCount T) where
+  -- more changes are held than there are places
+  pub too-many : n < k → inForm n T ≡ false
+  unfolding inForm
+  too-many h = rw (lt-leb (heldCount T) n (omega arith))
+
+  -- the tests of form, joined one by one
+  pub form-tested :
+      {heads order programs reads writes unused : Bool}
+      → k ≤ n
+      → heads ≡ allBelow k (headFits (T .timestamps) (T .status) (T .withdrawn) (T .reads) (T .writes))
+      → order ≡ allBelow k (orderFits (T .order) (T .timestamps) k)
+      → programs ≡ allBelow k (programFits (T .lengths) (T .programs))
+      → reads ≡ allBelow k (listFits (T .reads) (T .sources) (T .seen))
+      → writes ≡ allBelow k (listFits (T .writes) (T .targets) (T .written))
+      → unused ≡ unusedFits T k
+      → (heads && order && programs && reads && writes && unused) ≡ inForm n T
+  unfolding inForm
+  form-tested = rw e (λ few heads order programs reads writes unused. all-joined (sym (le-leb (heldCount T) n few) and heads and order and programs and reads and writes and unused and no-more))
 
 -- the refusal, by the two tests
 module _ (n : ℕ) (T : Tables) where

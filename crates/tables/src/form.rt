@@ -1,4 +1,5 @@
 // Lengths and form of the tables: refusals 1 and 2. Tests are joined by `&`, with no branch between them.
+use crate::held_count;
 use form_lists::lists_fit;
 use form_places::heads_fit;
 use form_places::order_fits;
@@ -8,52 +9,56 @@ use zeros::rest_zero_u8;
 use zeros::rest_zero_u16;
 use zeros::rest_zero_u64;
 ghost use mathlib.Core.Path.{_≡_};
-ghost use mathlib.Core.Bool.{true};
 ghost use mathlib.Core.List.{[]};
 ghost use Prim.Native.Nat.{_≤_};
 ghost use Rattle.model.specs.Tables.{tables};
-ghost use Rattle.model.specs.Form.{unusedFits, lengthsFit, inForm};
+ghost use Rattle.model.specs.Form.{unusedFits, lengthsFit};
 ghost use Rattle.model.specs.Refusals.{faultOf};
-ghost use Rattle.tables.specs.Lengths.{lengthNumbersFit};
 
-// Whether the lengths are those of tables of capacity n, from 1 to 4,096.
+// Whether the tables have the lengths of capacity n, from 1 to 4,096: not refusal 1.
 pub fn lengths_fit(
     n: usize,
-    held: usize,
-    timestamps: usize,
-    order: usize,
-    status: usize,
-    withdrawn: usize,
-    lengths: usize,
-    programs: usize,
-    reads: usize,
-    writes: usize,
-    sources: usize,
-    seen: usize,
-    targets: usize,
-    written: usize,
-    view: usize,
+    held: &[u16],
+    timestamps: &[u64],
+    order: &[u16],
+    status: &[u16],
+    withdrawn: &[u16],
+    lengths: &[u16],
+    programs: &[u8],
+    reads: &[u16],
+    writes: &[u16],
+    sources: &[u16],
+    seen: &[i32],
+    targets: &[u16],
+    written: &[i32],
+    view: &[i32],
 ) -> bool
-    ensures { λ r. ⌜ r ≡ lengthNumbersFit n held timestamps order status withdrawn lengths programs reads writes sources seen targets written view ⌝ }
+    ensures { λ r. ⌜
+        (let T =
+        tables (now (held .entry)) (now (timestamps .entry)) (now (order .entry)) (now (status .entry)) (now (withdrawn .entry))
+        (now (lengths .entry)) (now (programs .entry)) (now (reads .entry)) (now (writes .entry)) (now (sources .entry))
+        (now (seen .entry)) (now (targets .entry)) (now (written .entry)) (now (view .entry)) in
+        r ≡ lengthsFit n T)
+        ⌝ }
 {
     if !((1 <= n) & (n <= 4096)) {
         return false;
     }
     let slots = 32 * n;
-    (held == 1)
-        & (timestamps == n)
-        & (order == n)
-        & (status == n)
-        & (withdrawn == n)
-        & (lengths == n)
-        & (programs == 256 * n)
-        & (reads == n)
-        & (writes == n)
-        & (sources == slots)
-        & (seen == slots)
-        & (targets == slots)
-        & (written == slots)
-        & (view == 1024)
+    (held.len() == 1)
+        & (timestamps.len() == n)
+        & (order.len() == n)
+        & (status.len() == n)
+        & (withdrawn.len() == n)
+        & (lengths.len() == n)
+        & (programs.len() == 256 * n)
+        & (reads.len() == n)
+        & (writes.len() == n)
+        & (sources.len() == slots)
+        & (seen.len() == slots)
+        & (targets.len() == slots)
+        & (written.len() == slots)
+        & (view.len() == 1024)
 }
 
 // Whether the slots of places from count on are 0.
@@ -73,7 +78,14 @@ fn unused_fits(
     written: &[i32],
 ) -> bool
     requires { ⌜ count ≤ 4096 ⌝ }
-    ensures { λ r. ⌜ r ≡ unusedFits (tables [] (now (timestamps .entry)) (now (order .entry)) (now (status .entry)) (now (withdrawn .entry)) (now (lengths .entry)) (now (programs .entry)) (now (reads .entry)) (now (writes .entry)) (now (sources .entry)) (now (seen .entry)) (now (targets .entry)) (now (written .entry)) []) count ⌝ }
+    ensures { λ r. ⌜
+        r
+        ≡ unusedFits
+        (tables [] (now (timestamps .entry)) (now (order .entry)) (now (status .entry)) (now (withdrawn .entry)) (now (lengths .entry))
+        (now (programs .entry)) (now (reads .entry)) (now (writes .entry)) (now (sources .entry)) (now (seen .entry))
+        (now (targets .entry)) (now (written .entry)) [])
+        count
+        ⌝ }
 {
     let bytes = 256 * count;
     let slots = 32 * count;
@@ -89,58 +101,6 @@ fn unused_fits(
         & rest_zero_i32(seen, slots)
         & rest_zero_u16(targets, slots)
         & rest_zero_i32(written, slots)
-}
-
-// Whether tables of the right lengths are in form.
-pub fn in_form(
-    n: usize,
-    held: &[u16],
-    timestamps: &[u64],
-    order: &[u16],
-    status: &[u16],
-    withdrawn: &[u16],
-    lengths: &[u16],
-    programs: &[u8],
-    reads: &[u16],
-    writes: &[u16],
-    sources: &[u16],
-    seen: &[i32],
-    targets: &[u16],
-    written: &[i32],
-    view: &[i32],
-) -> bool
-    requires { ⌜
-        lengthsFit n
-        (tables (now held) (now timestamps) (now order) (now status) (now withdrawn) (now lengths) (now programs)
-        (now reads) (now writes) (now sources) (now seen) (now targets) (now written) (now view))
-        ≡ true
-        ⌝ }
-    ensures { λ r. ⌜ r ≡ inForm n (tables (now (held .entry)) (now (timestamps .entry)) (now (order .entry)) (now (status .entry)) (now (withdrawn .entry)) (now (lengths .entry)) (now (programs .entry)) (now (reads .entry)) (now (writes .entry)) (now (sources .entry)) (now (seen .entry)) (now (targets .entry)) (now (written .entry)) (now (view .entry))) ⌝ }
-{
-    let count = held[0] as usize;
-    if n < count {
-        return false;
-    }
-    heads_fit(count, timestamps, status, withdrawn, reads, writes)
-        & order_fits(count, order, timestamps)
-        & programs_fit(count, lengths, programs)
-        & lists_fit(count, reads, sources, seen)
-        & lists_fit(count, writes, targets, written)
-        & unused_fits(
-            count,
-            timestamps,
-            order,
-            status,
-            withdrawn,
-            lengths,
-            programs,
-            reads,
-            writes,
-            sources,
-            seen,
-            targets,
-            written,
-        )
 }
 
 // Refusal 1 or 2, or 0.
@@ -161,28 +121,15 @@ pub fn fault(
     written: &[i32],
     view: &[i32],
 ) -> u8
-    ensures { λ r. ⌜ (let T = tables (now (held .entry)) (now (timestamps .entry)) (now (order .entry)) (now (status .entry)) (now (withdrawn .entry)) (now (lengths .entry)) (now (programs .entry)) (now (reads .entry)) (now (writes .entry)) (now (sources .entry)) (now (seen .entry)) (now (targets .entry)) (now (written .entry)) (now (view .entry)) in r ≡ faultOf n T) ⌝ }
+    ensures { λ r. ⌜
+        (let T =
+        tables (now (held .entry)) (now (timestamps .entry)) (now (order .entry)) (now (status .entry)) (now (withdrawn .entry))
+        (now (lengths .entry)) (now (programs .entry)) (now (reads .entry)) (now (writes .entry)) (now (sources .entry))
+        (now (seen .entry)) (now (targets .entry)) (now (written .entry)) (now (view .entry)) in
+        r ≡ faultOf n T)
+        ⌝ }
 {
     if !lengths_fit(
-        n,
-        held.len(),
-        timestamps.len(),
-        order.len(),
-        status.len(),
-        withdrawn.len(),
-        lengths.len(),
-        programs.len(),
-        reads.len(),
-        writes.len(),
-        sources.len(),
-        seen.len(),
-        targets.len(),
-        written.len(),
-        view.len(),
-    ) {
-        return 1;
-    }
-    if !in_form(
         n,
         held,
         timestamps,
@@ -199,7 +146,31 @@ pub fn fault(
         written,
         view,
     ) {
+        return 1;
+    }
+    let count = held_count(held);
+    if n < count {
         return 2;
     }
-    0
+    let fits = heads_fit(count, timestamps, status, withdrawn, reads, writes)
+        & order_fits(count, order, timestamps)
+        & programs_fit(count, lengths, programs)
+        & lists_fit(count, reads, sources, seen)
+        & lists_fit(count, writes, targets, written)
+        & unused_fits(
+            count,
+            timestamps,
+            order,
+            status,
+            withdrawn,
+            lengths,
+            programs,
+            reads,
+            writes,
+            sources,
+            seen,
+            targets,
+            written,
+        );
+    if fits { 0 } else { 2 }
 }

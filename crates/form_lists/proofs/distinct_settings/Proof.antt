@@ -16,7 +16,7 @@ abbrev μ-loop : tie.MeasureT-loop
 μ-loop settings marks₀ row i₀ marks i = i
 
 loop-holds : tie.Need-loop-holds Inv-loop μ-loop
-loop-holds c = (omega arith, unmarked _ (c .before .args .settings .now) _ (c .before .pre .0) (c .before .pre .1))
+loop-holds c = (omega arith, unmarked _ (c .before .args .settings .now) _ (c .before .pre))
 
 returns : tie.Need-returns Inv-loop μ-loop
 returns c =
@@ -43,15 +43,15 @@ returns-3 : tie.Need-returns-3 Inv-loop μ-loop
 returns-3 c =
     let s = c .before .before .before .before .before .before .before .args .settings .now in
     let l = c .before .before .before .before .before .loop in
-    let k = kept s (l .i) 0 (c .before .before .before .if3 .taken) (l .inv .0) (l .inv .1) (c .mark3 .ensures) in
-    (answer s (l .i) 0 (c .before .before .before .if3 .taken) (l .inv .0) (l .inv .1) (c .mark3 .ensures), k .0, k .1)
+    let first = c .before .before .before .if3 .taken in
+    (answer s (l .i) 0 first (l .inv .0) (l .inv .1) (c .mark3 .ensures), kept s (l .i) 0 first (l .inv .0) (l .inv .1) (c .mark3 .ensures))
 
 returns-4 : tie.Need-returns-4 Inv-loop μ-loop
 returns-4 c =
     let l = c .before .before .loop in
     let m = l .inv .1 in
     let e : l .i ≡ 0 = omega arith in
-    (sym (rw e at (m .distinct)), m .sized, m .below)
+    (sym (rw e at (m .distinct)), m .marked)
 
 pub distinct-settings-spec : {M : Type 1} → statement M
 distinct-settings-spec =

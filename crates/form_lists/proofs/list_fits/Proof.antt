@@ -6,7 +6,8 @@ use borrow.Author.Needs.{needs}
 use borrow.Author.Tests.{le-leb, lt-leb}
 use lib.ListN.{getD}
 use Rattle.model.specs.Form.{allZero, allZeroZ, distinctSettings}
-use Rattle.zeros.proofs.Parts.{used-part, rest-part}
+use Rattle.machine.proofs.Parts.{used-part, rest-part}
+use Rattle.form_lists.proofs.Marks.{marked-later}
 use Rattle.form_lists.proofs.list_fits.Statement.{statement}
 use Rattle.form_lists.proofs.list_fits.Tie as tie
 
@@ -16,7 +17,7 @@ cast-count c = omega (arith, c .shared-slice-known3 .given (c .before .before .b
 returns : tie.Need-returns
 returns c =
     let s = c .before .before .before .before in
-    (rw (lt-leb (getD (s .args .counts .now) (s .args .i) 0) 32 (omega arith)), s .pre .4, λ t. omega (arith, s .pre .5 t))
+    (rw (lt-leb (getD (s .args .counts .now) (s .args .i) 0) 32 (omega arith)), marked-later (omega arith) (s .pre .1))
 
 returns-2 : tie.Need-returns-2
 returns-2 c =
@@ -26,7 +27,7 @@ returns-2 c =
     let distinct = d .distinct-settings .ensures .0 ∙ ap distinctSettings (used-part 32 (a .i) n (a .settings .now)) in
     let settings = c .before .before .all-zero-u16 .ensures ∙ ap allZero (rest-part 32 (a .i) n (a .settings .now)) in
     let values = c .all-zero-i32 .ensures ∙ ap allZeroZ (rest-part 32 (a .i) n (a .values .now)) ∙ sym (and-true _) in
-    (rw (le-leb n 32 (omega arith)) (λ j. distinct j && (settings j && values j)), d .distinct-settings .ensures .1, λ t. omega (arith, d .distinct-settings .ensures .2 t))
+    (rw (le-leb n 32 (omega arith)) (λ j. distinct j && (settings j && values j)), marked-later (omega arith) (d .distinct-settings .ensures .1))
 
 pub list-fits-spec : {M : Type 1} → statement M
 list-fits-spec =

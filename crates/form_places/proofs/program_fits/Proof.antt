@@ -8,7 +8,7 @@ use borrow.Author.Tests.{le-leb, lt-leb}
 use lib.ListN.{getD}
 use Rattle.machine.specs.Form.{wellFormed}
 use Rattle.model.specs.Form.{allZero}
-use Rattle.zeros.proofs.Parts.{used-part, rest-part}
+use Rattle.machine.proofs.Parts.{used-part, rest-part}
 use Rattle.form_places.proofs.program_fits.Statement.{statement}
 use Rattle.form_places.proofs.program_fits.Tie as tie
 

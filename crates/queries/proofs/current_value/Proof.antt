@@ -1,14 +1,10 @@
--- `queries::current_value` meets its contract: an outcome for each return. Assumes nothing.
-use mathlib.Core.Path.{ap, _∙_}
-use native.Mathlib.Omega.{arith}
-use borrow.Author.Needs.{needs, sfits-of}
-use mir.Facts.{toZ-ofZ}
-use Rattle.model.specs.declared.Value.the-variants as value
+-- `queries::current_value` meets its contract: refused for the tables, or the answer on tables in form. Assumes nothing.
+use mathlib.Core.Path.{_∙_}
 use Rattle.model.specs.Tables.{Tables, tables}
 use Rattle.model.specs.Form.{Formed}
 use Rattle.model.proofs.Form.{facts}
 use Rattle.tables.proofs.Faults.{faultless}
-use Rattle.queries.proofs.Outcomes.{current-fault, current-no-setting, current-is}
+use Rattle.queries.proofs.Outcomes.{current-fault, current-formed}
 use Rattle.queries.proofs.current_value.Statement.{statement}
 use Rattle.queries.proofs.current_value.Tie as tie
 
@@ -27,20 +23,8 @@ returns : tie.Need-returns
 returns c = current-fault _ (lent (entry (c .before))) _ (c .before .fault .ensures) (c .if1 .taken)
 
 returns-2 : tie.Need-returns-2
-returns-2 c =
-    let u = c .before .before in
-    ap value.Is (toZ-ofZ (sfits-of (c .t21 .given))) ∙ current-is _ (lent (entry (u .before))) _ (fits u) (c .before .if2 .taken)
-
-returns-3 : tie.Need-returns-3
-returns-3 c = current-no-setting _ (lent (entry (c .before .before))) _ (fits (c .before)) (c .if2 .left)
+returns-2 c = c .setting-value .ensures ∙ current-formed _ _ _ (fits (c .before))
 
 pub current-value-spec : {M : Type 1} → statement M
 current-value-spec =
-    tie.close
-    (tie.spec
-    (λ c κs. tt)
-    returns
-    (λ c. search needs)
-    (λ c. omega (arith, facts (fits (c .before)) .lengths .view, c .if2 .taken))
-    returns-2
-    returns-3)
+    tie.close (tie.spec (λ c κs. tt) returns (λ c κs. facts (fits c) .lengths .view) returns-2)

@@ -1,14 +1,13 @@
--- `queries::plain_run` meets its contract: an outcome for each return. Assumes nothing.
-use mathlib.Core.Path.{ap, _∙_}
+-- `queries::plain_run` meets its contract: refused for a length or the tables, or what the held changes leave. Assumes nothing.
+use mathlib.Core.Path.{refl, sym, ap, _∙_}
 use mathlib.Core.List.{List}
-use native.Mathlib.Omega.{arith}
 use borrow.Author.Needs.{needs}
 use lib.IntN.{ℤ}
-use Rattle.model.specs.Tables.{Tables, tables, heldCount}
+use Rattle.model.specs.Tables.{Tables, tables, programAt}
 use Rattle.model.specs.Form.{Formed}
 use Rattle.model.proofs.Form.{facts}
 use Rattle.fresh.specs.HeldRuns.{heldRun}
-use Rattle.fresh.proofs.Model.{runnable}
+use Rattle.fresh.proofs.Model.{held-programs}
 use Rattle.tables.proofs.Faults.{faultless}
 use Rattle.queries.proofs.Outcomes.{plain-wrong-length, plain-fault, plain-done}
 use Rattle.queries.proofs.plain_run.Statement.{statement}
@@ -32,22 +31,30 @@ returns : tie.Need-returns
 returns c = plain-wrong-length _ (lent (entry (c .before))) _ (c .if1 .taken)
 
 returns-2 : tie.Need-returns-2
-returns-2 c = plain-fault _ (lent (entered (c .before))) _ (c .before .before .if1 .left) (c .before .fault .ensures) (c .if2 .taken)
+returns-2 c = let f = c .before in plain-fault _ (lent (entered f)) _ (f .before .if1 .left) (f .fault .ensures) (c .if2 .taken)
+
+-- the place after the start values are filled in, and after the held changes are run
+abbrev filled : tie.After-values3 → tie.After-fill-start
+filled c = c .before .before
+
+abbrev ran : tie.After-settings → tie.After-run-held
+ran c = c .before .before .before .before .before
+
+-- that after the changes are counted
+abbrev counted : tie.After-values3 → tie.After-held-count
+counted c = filled c .before .before
 
 run-held-requires : tie.Need-run-held-requires
-run-held-requires c κs =
-    let f = c .before .before in
-    let u = f .before .before .before in
-    (runnable (fits u), f .fill-start .kept .0)
+run-held-requires c κs = let h = counted c in (held-programs (fits (h .before)) (h .held-count .ensures), filled c .fill-start .kept .0)
 
 returns-3 : tie.Need-returns-3
 returns-3 c =
-    let r = c .before .before .before .before .before in
-    let f = r .before .before .before in
-    let u = f .before .before .before in
+    let r = ran c in
+    let h = counted (r .before) in
+    let u = h .before in
     let T = lent (entered (u .before)) in
-    plain-done _ T _ (u .before .before .if1 .left) (fits u)
-    (c .before .copy .ensures ∙ r .run-held .ensures ∙ ap (λ (values : List ℤ). heldRun (T .order) (T .withdrawn) (T .lengths) (T .programs) values (heldCount T)) (f .fill-start .ensures))
+    plain-done _ T _ (u .before .before .if1 .left) (fits u) (h .held-count .ensures)
+    (c .before .copy .ensures ∙ r .run-held .ensures ∙ ap (λ (values : List ℤ). heldRun (T .order) (T .withdrawn) (programAt T) values (h .held-count .result)) (filled (r .before) .fill-start .ensures))
 
 pub plain-run-spec : {M : Type 1} → statement M
 plain-run-spec =
@@ -56,13 +63,12 @@ plain-run-spec =
     returns
     (λ c κs. tt)
     returns-2
-    (λ c. omega (arith, facts (fits (c .before)) .lengths .held))
-    (λ c. omega (arith, c .shared-slice-known12 .given 0))
-    (λ c. search needs)
-    (λ c κs. search needs)
-    (λ c. search needs)
+    (λ c κs. facts (fits c) .lengths .held)
+    (λ c. refl)
+    (λ c κs. refl)
+    (λ c. sym (filled c .fill-start .kept .0))
     run-held-requires
     (λ c. search needs)
     (λ c κs. search needs)
-    (λ c. search needs)
+    (λ c. c .before .copy .kept .1 .0)
     returns-3)

@@ -1,10 +1,12 @@
 -- `tables::form::fault` meets its contract: the lengths are tested first, and then the form. Assumes nothing.
 use mathlib.Core.Path.{_≡_, sym, _∙_}
-use mathlib.Core.Bool.{true}
+use mathlib.Core.Bool.{Bool, true, _&&_}
+use native.Mathlib.Omega.{arith}
 use borrow.Author.Tests.{not-true, not-false}
 use Rattle.model.specs.Tables.{Tables, tables}
-use Rattle.model.specs.Form.{lengthsFit}
-use Rattle.tables.proofs.Checks.{lengths-numbers, lengths-wrong, form-wrong, none-wrong}
+use Rattle.model.specs.Form.{lengthsFit, inForm}
+use Rattle.model.proofs.Tests.{Lengths, lengths-of}
+use Rattle.tables.proofs.Checks.{too-many, form-tested, lengths-wrong, form-wrong, none-wrong}
 use Rattle.tables.proofs.form.fault.Statement.{statement}
 use Rattle.tables.proofs.form.fault.Tie as tie
 
@@ -16,24 +18,73 @@ lent s =
 abbrev entry : tie.After-lengths-fit → tie.Start
 entry c = c .before .before .before .before .before .before .before .before .before .before .before .before
 
--- the code tests the lengths
-tested : (c : tie.After-lengths-fit) → c .lengths-fit .result ≡ lengthsFit (entry c .args .n) (lent (entry c))
-tested c = c .lengths-fit .ensures ∙ lengths-numbers _ (lent (entry c))
-
 returns : tie.Need-returns
-returns c = lengths-wrong _ (lent (entry (c .before))) (sym (tested (c .before)) ∙ not-true _ (c .if1 .taken))
+returns c = lengths-wrong _ (lent (entry (c .before))) (sym (c .before .lengths-fit .ensures) ∙ not-true _ (c .if1 .taken))
 
 right : (c : tie.Else1) → lengthsFit (entry (c .before) .args .n) (lent (entry (c .before))) ≡ true
-right c = sym (tested (c .before)) ∙ not-false _ (c .if1 .left)
+right c = sym (c .before .lengths-fit .ensures) ∙ not-false _ (c .if1 .left)
 
-in-form-requires : tie.Need-in-form-requires
-in-form-requires c κs = right c
+-- the place after the lengths are tested, from that after the count is
+abbrev sized : tie.Else2 → tie.Else1
+sized c = c .before .before
+
+fits : (c : tie.Else2) → let s = entry (sized c .before) in Lengths (s .args .n) (lent s)
+fits c = lengths-of _ _ (right (sized c))
 
 returns-2 : tie.Need-returns-2
-returns-2 c = form-wrong _ _ (right (c .before .before)) (sym (c .before .in-form .ensures) ∙ not-true _ (c .if2 .taken))
+returns-2 c = let t = c .before in form-wrong _ _ (right (t .before)) (too-many _ _ (t .held-count .ensures) (c .if2 .taken))
+
+-- the place after the count is tested, from each test of form
+abbrev from-heads : tie.After-heads-fit → tie.Else2
+from-heads c = c .before
+
+abbrev from-order : tie.After-order-fits → tie.Else2
+from-order c = from-heads (c .before)
+
+abbrev from-programs : tie.After-programs-fit → tie.Else2
+from-programs c = from-order (c .before)
+
+abbrev from-reads : tie.After-lists-fit → tie.Else2
+from-reads c = from-programs (c .before)
+
+abbrev from-writes : tie.After-lists-fit2 → tie.Else2
+from-writes c = from-reads (c .before)
+
+abbrev from-unused : tie.After-unused-fits → tie.Else2
+from-unused c = from-writes (c .before)
+
+-- the tests of form, joined
+abbrev joint : tie.After-unused-fits → Bool
+joint c =
+    let reads = c .before .before in
+    let order = reads .before .before in
+    order .before .heads-fit .result && order .order-fits .result && reads .before .programs-fit .result && reads .lists-fit .result && c .before .lists-fit2 .result && c .unused-fits .result
+
+tested : (c : tie.After-unused-fits) → let s = entry (sized (from-unused c) .before) in joint c ≡ inForm (s .args .n) (lent s)
+tested c =
+    let reads = c .before .before in
+    let order = reads .before .before in
+    form-tested _ _ (from-unused c .before .held-count .ensures) (from-unused c .if2 .left) (order .before .heads-fit .ensures) (order .order-fits .ensures) (reads .before .programs-fit .ensures) (reads .lists-fit .ensures) (c .before .lists-fit2 .ensures) (c .unused-fits .ensures)
 
 returns-3 : tie.Need-returns-3
-returns-3 c = none-wrong _ _ (right (c .before .before)) (sym (c .before .in-form .ensures) ∙ not-false _ (c .if2 .left))
+returns-3 c = none-wrong _ _ (right (sized (from-unused (c .before)))) (sym (tested (c .before)) ∙ c .if3 .taken)
+
+returns-4 : tie.Need-returns-4
+returns-4 c = form-wrong _ _ (right (sized (from-unused (c .before)))) (sym (tested (c .before)) ∙ c .if3 .left)
 
 pub fault-spec : {M : Type 1} → statement M
-fault-spec = tie.close (tie.spec (λ c κs. tt) returns in-form-requires returns-2 returns-3)
+fault-spec =
+    tie.close
+    (tie.spec
+    (λ c κs. tt)
+    returns
+    (λ c κs. lengths-of _ _ (right c) .held)
+    returns-2
+    (λ c κs. let g = fits c in omega (arith, c .if2 .left, g .timestamps, g .status, g .withdrawn, g .reads, g .writes))
+    (λ c κs. let s = from-heads c in omega (arith, s .if2 .left, fits s .order))
+    (λ c κs. let s = from-order c in let g = fits s in omega (arith, s .if2 .left, g .capacity, g .lengths, g .programs))
+    (λ c κs. let s = from-programs c in let g = fits s in omega (arith, s .if2 .left, g .capacity, g .reads, g .sources, g .seen))
+    (λ c κs. let s = from-reads c in let g = fits s in omega (arith, s .if2 .left, g .capacity, g .writes, g .targets, g .written))
+    (λ c κs. let s = from-writes c in omega (arith, s .if2 .left, fits s .capacity))
+    returns-3
+    returns-4)

@@ -1,28 +1,22 @@
 -- `tables::form::lengths_fit` meets its contract: the tests of the code are those of the definition, in order. Assumes nothing.
-use mathlib.Core.Bool.{Bool, _&&_}
-use Prim.Native.Nat.{ℕ, _≤_}
+use Prim.Native.Nat.{_≤_}
 use native.Mathlib.Omega.{arith}
 use borrow.Author.Tests.{not-true, not-false, leb-true}
 use lib.Dec.{leb}
 use Rattle.machine.proofs.Cases.{both}
-use Rattle.tables.specs.Lengths.{lengthNumbersFit}
+use Rattle.tables.proofs.Checks.{out-of-range, lengths-tested}
 use Rattle.tables.proofs.form.lengths_fit.Statement.{statement}
 use Rattle.tables.proofs.form.lengths_fit.Tie as tie
 
-abbrev inRange : ℕ → Bool
-inRange n = leb 1 n && leb n 4096
-
 returns : tie.Need-returns
-unfolding lengthNumbersFit
-returns c = rw (not-true (inRange (c .before .args .n)) (c .if1 .taken))
+returns c = out-of-range _ _ (not-true _ (c .if1 .taken))
 
 -- the capacity is in range
 capacity : (c : tie.Else1) → c .before .args .n ≤ 4096
 capacity c = leb-true _ _ (both (leb 1 (c .before .args .n)) (not-false _ (c .if1 .left)) .1)
 
 returns-2 : tie.Need-returns-2
-unfolding lengthNumbersFit
-returns-2 c = rw (not-false (inRange (c .before .args .n)) (c .if1 .left))
+returns-2 c = lengths-tested _ _ (not-false _ (c .if1 .left))
 
 pub lengths-fit-spec : {M : Type 1} → statement M
 lengths-fit-spec =
