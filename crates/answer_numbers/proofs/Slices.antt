@@ -1,11 +1,11 @@
--- Turn and drain with their lent slice: a law for each outcome, and what the code stores in the slice.
-use mathlib.Core.Path.{_≡_, refl, sym, ap, subst, _∙_}
+-- Turn and drain with their lent slice: what the code stores in it, that a turn's number fits a byte, and a law for each return.
+use mathlib.Core.Path.{_≡_, refl, sym, subst}
 use mathlib.Core.Bool.{Bool, true, false, not}
 use mathlib.Core.List.{List, [], _∷_}
-use Prim.Native.Nat.{ℕ, _<_}
+use Prim.Native.Nat.{ℕ, _<_, _≤_}
 use native.Mathlib.Omega.{arith}
-use borrow.Author.Tests.{ne-eqb}
-use lib.ListN.{length, set}
+use borrow.Author.Tests.{eq-eqb, ne-eqb}
+use lib.ListN.{length, set, drop}
 use Rattle.model.specs.declared.Drained.{Drained}
 use Rattle.model.specs.declared.Turned.{Turned}
 use Rattle.model.specs.declared.Turned.the-variants as turn-answer
@@ -14,68 +14,67 @@ use Rattle.model.specs.Figure.{ran, stood, cleared, Step, idle, turned}
 use Rattle.model.specs.Form.{lengthsFit, inForm}
 use Rattle.model.specs.Refusals.{test, firstOf}
 use Rattle.model.specs.Tables.{Tables, decode}
-use Rattle.model.specs.Calls.{Reply, reply, unless, stepReply, roundOf, turn, drain}
-use Rattle.answer_numbers.specs.Numbers.{sliceReply, turnedNumber, turnedTimestamp, turnNumbers, drainedNumber, drainedTotals, drainNumbers}
+use Rattle.model.specs.Calls.{Given, refused, turnedGiven, drainedGiven, numberGiven, Reply, reply, unless, stepReply, roundOf, turn, drain}
+use Rattle.answer_numbers.proofs.Numbers.{same-answer, of-call}
+use Rattle.answer_numbers.specs.Numbers.{turnedNumber, answering, Numbered, numbered, givenNumbers, sliceNumbers, turnNumbers, drainNumbers}
 
 -- ---- the slice after the stores
 
--- a slice of one entry
-pub one-stored : (slice : List ℕ) → length slice ≡ 1 → (a : ℕ) → set slice 0 a ≡ a ∷ []
-one-stored [] e a = absurd (omega arith)
-one-stored (x ∷ []) e a = refl
-one-stored (x ∷ y ∷ slice) e a = absurd (omega arith)
+pub one-stored : (slice : List ℕ) → 1 ≤ length slice → (a : ℕ) → set slice 0 a ≡ a ∷ drop 1 slice
+one-stored [] h a = absurd (omega arith)
+one-stored (x ∷ slice) h a = refl
 
--- a slice of three entries
-pub three-stored : (slice : List ℕ) → length slice ≡ 3 → (a b c : ℕ) → set (set (set slice 0 a) 1 b) 2 c ≡ a ∷ b ∷ c ∷ []
-three-stored [] e a b c = absurd (omega arith)
-three-stored (x ∷ []) e a b c = absurd (omega arith)
-three-stored (x ∷ y ∷ []) e a b c = absurd (omega arith)
-three-stored (x ∷ y ∷ z ∷ []) e a b c = refl
-three-stored (x ∷ y ∷ z ∷ w ∷ slice) e a b c = absurd (omega arith)
+pub three-stored : (slice : List ℕ) → 3 ≤ length slice → (a b c : ℕ) → set (set (set slice 0 a) 1 b) 2 c ≡ a ∷ b ∷ c ∷ drop 3 slice
+three-stored [] h a b c = absurd (omega arith)
+three-stored (x ∷ []) h a b c = absurd (omega arith)
+three-stored (x ∷ y ∷ []) h a b c = absurd (omega arith)
+three-stored (x ∷ y ∷ z ∷ slice) h a b c = refl
 
 -- ---- a turn's number fits a byte
 
-step-fits : (n : ℕ) (T : Tables) (c : Cabinet) (s : Step) → turnedNumber (stepReply n T c s .answer) < 256
+step-fits : (n : ℕ) (T : Tables) (c : Cabinet) (s : Step) → turnedNumber (turnedGiven (stepReply n T c s .answer)) < 256
 step-fits n T c idle = omega arith
 step-fits n T c (turned h view (ran t l)) = omega arith
 step-fits n T c (turned h view (stood t)) = omega arith
 step-fits n T c (turned h view (cleared t)) = omega arith
 
 -- its refusals are 1 and 2
-refused-fits : (a b : Bool) (T : Tables) (done : Reply Turned) → turnedNumber (done .answer) < 256 → turnedNumber (unless (firstOf (test 1 a ∷ test 2 b ∷ [])) turn-answer.Refused T done .answer) < 256
+refused-fits : (a b : Bool) (T : Tables) (done : Reply Turned) → turnedNumber (turnedGiven (done .answer)) < 256 → turnedNumber (turnedGiven (unless (firstOf (test 1 a ∷ test 2 b ∷ [])) turn-answer.Refused T done .answer)) < 256
 refused-fits true b T done h = omega arith
 refused-fits false true T done h = omega arith
 refused-fits false false T done h = h
 
-module _ (n : ℕ) (T : Tables) where
-  turn-fits : turnedNumber (turn n T .answer) < 256
-  unfolding turn
-  turn-fits = refused-fits (not (lengthsFit n T)) (not (inForm n T)) T _ (step-fits n T (decode T) (roundOf (decode T)))
+turn-fits : (n : ℕ) (T : Tables) → turnedNumber (turnedGiven (turn n T .answer)) < 256
+unfolding turn
+turn-fits n T = refused-fits (not (lengthsFit n T)) (not (inForm n T)) T _ (step-fits n T (decode T) (roundOf (decode T)))
 
-  pub turned-fits : {a : Turned} {U : Tables} → reply a U ≡ turn n T → turnedNumber a < 256
-  turned-fits e = subst (λ (r : Reply Turned). turnedNumber (r .answer) < 256) (sym e) turn-fits
+pub turned-fits : (n : ℕ) (T : Tables) {a : Turned} {U : Tables} → reply a U ≡ turn n T → turnedNumber (turnedGiven a) < 256
+turned-fits n T e = subst (λ (r : Reply Turned). turnedNumber (turnedGiven (r .answer)) < 256) (sym e) (turn-fits n T)
 
-  -- ---- an outcome for each return
+-- ---- a law for each return
 
-  module _ (slice : List ℕ) where
-    pub turn-length : (length slice ≡ 1 → ⊥) → sliceReply 17 T slice ≡ turnNumbers n T slice
-    unfolding turnNumbers
-    turn-length f = rw (ne-eqb (length slice) 1 f)
+module _ {A : Type 0} (gives : A → Given) (number : Given → ℕ) (stated : ℕ) (slice : List ℕ) (T : Tables) (called : Reply A) where
+  -- the slice has another length
+  other-length : (length slice ≡ stated → ⊥) → reply (givenNumbers number slice (refused 1)) T ≡ sliceNumbers gives number stated slice T called
+  other-length f = rw (ne-eqb (length slice) stated f)
 
-    pub turn-done : length slice ≡ 1 → {a : Turned} {U : Tables} {r : ℕ} {filled : List ℕ} → reply a U ≡ turn n T → (r ≡ turnedNumber a) × (filled ≡ turnedTimestamp a slice) → sliceReply r U filled ≡ turnNumbers n T slice
-    unfolding turnNumbers
-    turn-done e {a} {U} h (number, stored) =
-        rw e
-        ((λ j. sliceReply (number j) U (stored j))
-        ∙ ap (λ (r : Reply Turned). sliceReply (turnedNumber (r .answer)) (r .tables) (turnedTimestamp (r .answer) slice)) h)
+  -- the call is made
+  filled : length slice ≡ stated → {a : A} {U : Tables} {after : Numbered ℕ} → after ≡ givenNumbers number slice (gives a) → reply a U ≡ called → reply after U ≡ sliceNumbers gives number stated slice T called
+  filled e h q = rw (eq-eqb (length slice) stated e) (of-call (answering (λ a. givenNumbers number slice (gives a))) (same-answer h) q)
 
-    pub drain-length : (length slice ≡ 3 → ⊥) → sliceReply 1 T slice ≡ drainNumbers n T slice
-    unfolding drainNumbers
-    drain-length f = rw (ne-eqb (length slice) 3 f)
+module _ (n : ℕ) (T : Tables) (slice : List ℕ) where
+  pub turn-length : (length slice ≡ 1 → ⊥) → reply (numbered 17 slice) T ≡ turnNumbers n T slice
+  unfolding turnNumbers
+  turn-length = other-length turnedGiven turnedNumber 1 slice T (turn n T)
 
-    pub drain-done : length slice ≡ 3 → {a : Drained} {U : Tables} {r : ℕ} {filled : List ℕ} → reply a U ≡ drain n T → (r ≡ drainedNumber a) × (filled ≡ drainedTotals a slice) → sliceReply r U filled ≡ drainNumbers n T slice
-    unfolding drainNumbers
-    drain-done e {a} {U} h (number, stored) =
-        rw e
-        ((λ j. sliceReply (number j) U (stored j))
-        ∙ ap (λ (r : Reply Drained). sliceReply (drainedNumber (r .answer)) (r .tables) (drainedTotals (r .answer) slice)) h)
+  pub turn-done : length slice ≡ 1 → {a : Turned} {U : Tables} {after : Numbered ℕ} → after ≡ givenNumbers turnedNumber slice (turnedGiven a) → reply a U ≡ turn n T → reply after U ≡ turnNumbers n T slice
+  unfolding turnNumbers
+  turn-done = filled turnedGiven turnedNumber 1 slice T (turn n T)
+
+  pub drain-length : (length slice ≡ 3 → ⊥) → reply (numbered 1 slice) T ≡ drainNumbers n T slice
+  unfolding drainNumbers
+  drain-length = other-length drainedGiven numberGiven 3 slice T (drain n T)
+
+  pub drain-done : length slice ≡ 3 → {a : Drained} {U : Tables} {after : Numbered ℕ} → after ≡ givenNumbers numberGiven slice (drainedGiven a) → reply a U ≡ drain n T → reply after U ≡ drainNumbers n T slice
+  unfolding drainNumbers
+  drain-done = filled drainedGiven numberGiven 3 slice T (drain n T)

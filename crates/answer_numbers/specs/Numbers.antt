@@ -1,80 +1,71 @@
--- Answers of the exported functions as numbers; that of an `Answer` is `answerNumber` of the calls.
+-- Answers as the numbers that the exported functions give, by what an answer gives (`Given` of the calls). That of an `Answer` is `answerNumber` of the calls. The number of a refusal is none of another answer.
 use mathlib.Core.Bool.{cond}
-use mathlib.Core.List.{List, [], _∷_}
+use mathlib.Core.List.{List, _++_, map}
 use Prim.Native.Nat.{ℕ, _+_, _*_}
 use lib.Dec.{eqb}
-use lib.IntN.{ℤ, pos}
-use lib.ListN.{length}
-use Rattle.model.specs.declared.Drained.{Drained}
-use Rattle.model.specs.declared.Drained.the-variants as drain-answer
-use Rattle.model.specs.declared.Standing.{Standing}
-use Rattle.model.specs.declared.Standing.the-variants as standing-answer
-use Rattle.model.specs.declared.Turned.{Turned}
-use Rattle.model.specs.declared.Turned.the-variants as turn-answer
-use Rattle.model.specs.declared.Value.{Value}
-use Rattle.model.specs.declared.Value.the-variants as value-answer
+use lib.IntN.{ℤ, pos, natAbs}
+use lib.ListN.{length, getD, drop}
 use Rattle.model.specs.Tables.{Tables}
-use Rattle.model.specs.Calls.{turn, drain}
+use Rattle.model.specs.Calls.{Given, refused, given, turnedGiven, drainedGiven, numberGiven, answerNumber, Reply, reply, PackageReply, PlainReply, turn, drain}
 
--- a value, or 4,294,967,296 + the refusal
-abbrev pub valueNumber : Value → ℤ
-valueNumber (value-answer.Is v) = v
-valueNumber (value-answer.Refused r) = pos (4294967296 + r)
+-- the value, or 4,294,967,296 + the refusal
+abbrev pub valueNumber : Given → ℤ
+valueNumber (refused r) = pos (4294967296 + r)
+valueNumber (given k values) = getD values 0 (pos 0)
 
 -- status + 256 × flag, or 65,536 + the refusal
-abbrev pub standingNumber : Standing → ℕ
-standingNumber (standing-answer.At status flag) = status + flag * 256
-standingNumber (standing-answer.Refused r) = 65536 + r
+abbrev pub standingNumber : Given → ℕ
+standingNumber (refused r) = 65536 + r
+standingNumber (given k values) = natAbs (getD values 0 (pos 0)) + natAbs (getD values 1 (pos 0)) * 256
 
--- ---- turn and drain: the rest of the answer stands in one more lent slice
+-- of a turn: 0 idle, 1 ran, 2 stood, 3 cleared, or 16 + the refusal
+abbrev pub turnedNumber : Given → ℕ
+turnedNumber (refused r) = 16 + r
+turnedNumber (given k values) = k
 
--- the number of a call's answer, and the tables and that slice after the call
-pub record SliceReply : Type 0 where
+-- ---- the reply of an exported function
+
+-- a reply with its answer as a number
+abbrev pub answering : {A B : Type 0} → (A → B) → Reply A → Reply B
+answering number r = reply (number (r .answer)) (r .tables)
+
+-- a number, and what stands in the slice that is lent beside the tables
+pub record Numbered (A : Type 0) : Type 0 where
   pub number : ℕ
-  pub tables : Tables
-  pub slice : List ℕ
+  pub slice : List A
 
-abbrev pub sliceReply : ℕ → Tables → List ℕ → SliceReply
-sliceReply number T slice = record { number = number; tables = T; slice = slice }
+abbrev pub numbered : {A : Type 0} → ℕ → List A → Numbered A
+numbered number slice = record { number = number; slice = slice }
 
--- 0 idle, 1 ran, 2 stood, 3 cleared, or 16 + the refusal
-abbrev pub turnedNumber : Turned → ℕ
-turnedNumber turn-answer.Idle = 0
-turnedNumber (turn-answer.Ran t) = 1
-turnedNumber (turn-answer.Stood t) = 2
-turnedNumber (turn-answer.Cleared t) = 3
-turnedNumber (turn-answer.Refused r) = 16 + r
+-- a package: the slice has the answer bytes
+abbrev pub packageNumbers : PackageReply → Reply (Numbered ℕ)
+packageNumbers r = reply (numbered (answerNumber (r .answer)) (r .answers)) (r .tables)
 
--- the slice of one entry gets the timestamp that the answer names; idle and refused name none
-abbrev pub turnedTimestamp : Turned → List ℕ → List ℕ
-turnedTimestamp turn-answer.Idle slice = slice
-turnedTimestamp (turn-answer.Ran t) slice = t ∷ []
-turnedTimestamp (turn-answer.Stood t) slice = t ∷ []
-turnedTimestamp (turn-answer.Cleared t) slice = t ∷ []
-turnedTimestamp (turn-answer.Refused r) slice = slice
+-- a plain run: the slice has the settings
+abbrev pub plainNumbers : PlainReply → Numbered ℤ
+plainNumbers r = numbered (answerNumber (r .answer)) (r .settings)
 
--- a turn; another length of the slice than 1 is refusal 1, tested first
-unfoldable pub turnNumbers : ℕ → Tables → List ℕ → SliceReply
-turnNumbers n T slice =
-    let reply = turn n T in
-    cond (eqb (length slice) 1)
-    (record { number = turnedNumber (reply .answer); tables = reply .tables; slice = turnedTimestamp (reply .answer) slice })
-    (record { number = turnedNumber (turn-answer.Refused 1); tables = T; slice = slice })
+-- ---- turn and drain: the slice has the values of the answer
 
--- 0 done, else the refusal
-abbrev pub drainedNumber : Drained → ℕ
-drainedNumber (drain-answer.Counted totals) = 0
-drainedNumber (drain-answer.Refused r) = r
+-- an answer's values, then the contents as they were; a refusal alters nothing
+abbrev pub putInto : List ℕ → Given → List ℕ
+putInto slice (refused r) = slice
+putInto slice (given k values) = map natAbs values ++ drop (length values) slice
 
--- the slice of three entries gets how many turns ran, stood and were cleared
-abbrev pub drainedTotals : Drained → List ℕ → List ℕ
-drainedTotals (drain-answer.Counted totals) slice = totals .ran ∷ totals .stood ∷ totals .cleared ∷ []
-drainedTotals (drain-answer.Refused r) slice = slice
+abbrev pub givenNumbers : (Given → ℕ) → List ℕ → Given → Numbered ℕ
+givenNumbers number slice g = numbered (number g) (putInto slice g)
 
--- a drain; another length of the slice than 3 is refusal 1, tested first
-unfoldable pub drainNumbers : ℕ → Tables → List ℕ → SliceReply
-drainNumbers n T slice =
-    let reply = drain n T in
-    cond (eqb (length slice) 3)
-    (record { number = drainedNumber (reply .answer); tables = reply .tables; slice = drainedTotals (reply .answer) slice })
-    (record { number = drainedNumber (drain-answer.Refused 1); tables = T; slice = slice })
+-- a slice of another length than stated is refusal 1, tested first
+abbrev pub sliceNumbers : {A : Type 0} → (A → Given) → (Given → ℕ) → ℕ → List ℕ → Tables → Reply A → Reply (Numbered ℕ)
+sliceNumbers gives number stated slice T called =
+    cond (eqb (length slice) stated)
+    (answering (λ a. givenNumbers number slice (gives a)) called)
+    (reply (givenNumbers number slice (refused 1)) T)
+
+-- one entry: the timestamp that the answer names; idle names none
+unfoldable pub turnNumbers : ℕ → Tables → List ℕ → Reply (Numbered ℕ)
+turnNumbers n T slice = sliceNumbers turnedGiven turnedNumber 1 slice T (turn n T)
+
+-- three entries: how many turns ran, stood and were cleared
+unfoldable pub drainNumbers : ℕ → Tables → List ℕ → Reply (Numbered ℕ)
+drainNumbers n T slice = sliceNumbers drainedGiven numberGiven 3 slice T (drain n T)

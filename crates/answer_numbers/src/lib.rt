@@ -7,8 +7,8 @@ use model::Value;
 ghost use mathlib.Core.Path.{_≡_};
 ghost use Prim.Native.Nat.{_<_};
 ghost use lib.ListN.{length};
-ghost use Rattle.model.specs.Calls.{answerNumber};
-ghost use Rattle.answer_numbers.specs.Numbers.{valueNumber, standingNumber, turnedNumber, turnedTimestamp, drainedNumber, drainedTotals};
+ghost use Rattle.model.specs.Calls.{turnedGiven, drainedGiven, valueGiven, standingGiven, numberGiven, answerNumber};
+ghost use Rattle.answer_numbers.specs.Numbers.{valueNumber, standingNumber, turnedNumber, numbered, givenNumbers};
 
 // 0 done, 255 held already, else the refusal.
 pub fn answer_number(answer: Answer) -> u8
@@ -23,7 +23,7 @@ pub fn answer_number(answer: Answer) -> u8
 
 // A value, or 4,294,967,296 + the refusal.
 pub fn value_number(value: Value) -> i64
-    ensures { λ r. ⌜ r ≡ valueNumber value ⌝ }
+    ensures { λ r. ⌜ r ≡ valueNumber (valueGiven value) ⌝ }
 {
     match value {
         Value::Is(v) => v as i64,
@@ -33,7 +33,7 @@ pub fn value_number(value: Value) -> i64
 
 // Status + 256 × flag, or 65,536 + the refusal.
 pub fn standing_number(standing: Standing) -> u32
-    ensures { λ r. ⌜ r ≡ standingNumber standing ⌝ }
+    ensures { λ r. ⌜ r ≡ standingNumber (standingGiven standing) ⌝ }
 {
     match standing {
         Standing::At(status, flag) => status as u32 + flag as u32 * 256,
@@ -43,8 +43,8 @@ pub fn standing_number(standing: Standing) -> u32
 
 // 0 idle, 1 ran, 2 stood, 3 cleared, or 16 + the refusal; the slice gets the timestamp of the change whose turn it was.
 pub fn put_timestamp(answer: Turned, timestamp: &mut [u64]) -> u8
-    requires { ⌜ (length (now timestamp) ≡ 1) × (turnedNumber answer < 256) ⌝ }
-    ensures { λ r. ⌜ (r ≡ turnedNumber answer) × (now (timestamp .exit) ≡ turnedTimestamp answer (now (timestamp .entry))) ⌝ }
+    requires { ⌜ (length (now timestamp) ≡ 1) × (turnedNumber (turnedGiven answer) < 256) ⌝ }
+    ensures { λ r. ⌜ numbered r (now (timestamp .exit)) ≡ givenNumbers turnedNumber (now (timestamp .entry)) (turnedGiven answer) ⌝ }
 {
     match answer {
         Turned::Idle => 0,
@@ -67,7 +67,7 @@ pub fn put_timestamp(answer: Turned, timestamp: &mut [u64]) -> u8
 // 0 done, else the refusal; the slice gets how many turns ran, stood and were cleared.
 pub fn put_totals(answer: Drained, totals: &mut [u64]) -> u8
     requires { ⌜ length (now totals) ≡ 3 ⌝ }
-    ensures { λ r. ⌜ (r ≡ drainedNumber answer) × (now (totals .exit) ≡ drainedTotals answer (now (totals .entry))) ⌝ }
+    ensures { λ r. ⌜ numbered r (now (totals .exit)) ≡ givenNumbers numberGiven (now (totals .entry)) (drainedGiven answer) ⌝ }
 {
     match answer {
         Drained::Counted(counts) => {

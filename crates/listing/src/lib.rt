@@ -87,9 +87,6 @@ pub fn put_listing(
         answers,
     );
     put_reply(
-        answer,
-        bytes,
-        answers,
         held,
         timestamps,
         order,
@@ -104,6 +101,9 @@ pub fn put_listing(
         targets,
         written,
         view,
+        answer,
+        bytes,
+        answers,
         text,
     )
 }

@@ -129,9 +129,6 @@ fn put_settings(view: &[i32], text: &mut [u8], at: usize) -> usize
 
 // The lines of a package's reply: its refusal, or its entries, the turns of one drain, and the settings that are not 0.
 pub fn put_reply(
-    answer: Answer,
-    bytes: &[u8],
-    answers: &[u8],
     held: &[u16],
     timestamps: &[u64],
     order: &[u16],
@@ -146,6 +143,9 @@ pub fn put_reply(
     targets: &mut [u16],
     written: &mut [i32],
     view: &mut [i32],
+    answer: Answer,
+    bytes: &[u8],
+    answers: &[u8],
     text: &mut [u8],
 ) -> usize
     requires { ⌜

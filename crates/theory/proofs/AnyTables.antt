@@ -1,5 +1,6 @@
 -- What the calls do on any tables in form, reached by calls or not: they leave tables in form, a drain ends, and its turns are those of single calls.
 use mathlib.Core.Path.{_≡_, refl, sym, ap, subst, _∙_}
+use mathlib.Core.Bool.{true}
 use mathlib.Core.List.{List}
 use Prim.Native.Nat.{ℕ}
 use native.Mathlib.Omega.{arith}
@@ -11,19 +12,25 @@ use Rattle.model.specs.Figure.{Event, ran, stood, cleared, Step, idle, turned}
 use Rattle.model.specs.Drain.{drainNone, drainMore, drainHistory}
 use Rattle.model.specs.Cabinet.{Cabinet, historyOf, withHistory}
 use Rattle.model.specs.Tables.{Tables, encode}
-use Rattle.model.specs.Form.{Formed}
-use Rattle.model.specs.Calls.{eventAnswer, roundOf, drainOf}
+use Rattle.model.specs.Form.{lengthsFit, Formed}
+use Rattle.model.specs.Calls.{setUp, eventAnswer, roundOf, drainOf}
 use Rattle.model.specs.Log.{Call, Ledger}
 use Rattle.model.specs.Sound.{Sound}
 use Rattle.model.proofs.Cabinet.{withHistory-history, same-history, history-again}
 use Rattle.model.proofs.Order.{changesAt-length}
 use Rattle.model.proofs.Keeps.{StepKeeps, Keeps, keeps-length, round-keeps, drain-keeps, round-sound, drain-sound}
 use Rattle.model.proofs.Figure.{drain-ends, drain-within, drain-idle, drain-next}
+use Rattle.model.proofs.Tests.{lengths-of}
 use Rattle.model.proofs.Form.{encode-formed, facts}
 use Rattle.theory.specs.AnyTables.{KeepsForm, DrainsAny, DrainsByTurns}
-use Rattle.theory.proofs.Calls.{turn-call, drain-call, drain-events, drained-history, call-tables, call-sound}
+use Rattle.theory.proofs.Calls.{empty-sound, turn-call, drain-call, drain-events, drained-history, call-tables, call-sound}
 
 -- ---- form
+
+-- tables of the right lengths, set up
+pub set-up-formed : (n : ℕ) (T : Tables) → lengthsFit n T ≡ true → Formed n (setUp n T .tables)
+unfolding setUp
+set-up-formed n T e = rw e (encode-formed (empty-sound n T (lengths-of n T e)))
 
 pub calls-keep-form : (n : ℕ) (call : Call) (k : Ledger) → KeepsForm n call k
 calls-keep-form n call k f =

@@ -3,6 +3,7 @@ use mathlib.Core.Path.{_≡_, refl, sym, ap}
 use mathlib.Core.Bool.{cond, not}
 use mathlib.Core.List.{List, [], _∷_}
 use Prim.Native.Nat.{ℕ}
+use native.Mathlib.Omega.{arith}
 use lib.Dec.{eqb}
 use lib.ListN.{length}
 use Rattle.machine.proofs.Cases.{by-test, by-test₂}
@@ -10,7 +11,7 @@ use Rattle.model.specs.declared.Drained.the-variants as drain-answer
 use Rattle.model.specs.History.{start}
 use Rattle.model.specs.Figure.{Step, idle, turned}
 use Rattle.model.specs.Drain.{totals}
-use Rattle.model.specs.Cabinet.{Cabinet, historyOf, withHistory}
+use Rattle.model.specs.Cabinet.{Cabinet, emptyCabinet, historyOf, withHistory}
 use Rattle.model.specs.Tables.{Tables, encode}
 use Rattle.model.specs.Refusals.{firstOf, wrongLength, notInForm, test}
 use Rattle.model.specs.Package.{Item, taking, withdrawing, layoutFits, itemsOf}
@@ -20,6 +21,8 @@ use Rattle.model.specs.Sound.{Sound}
 use Rattle.model.proofs.Cabinet.{withHistory-history}
 use Rattle.model.proofs.Keeps.{keeps-length, drain-keeps, round-sound, drain-sound}
 use Rattle.model.proofs.Items.{of-answer, item-sound, items-sound}
+use Rattle.model.proofs.Order.{placed-of}
+use Rattle.model.proofs.Tests.{Lengths}
 use Rattle.model.proofs.Tables.{decode-encode}
 use Rattle.model.proofs.Form.{encode-formed}
 
@@ -43,6 +46,19 @@ cabinetAfter n (packageCall bytes answers) c = cond (eqb (packageRefusal n c byt
 cabinetAfter n (withdrawCall t) c = itemStep n c (withdrawing t)
 cabinetAfter n turnCall c = afterStep c (roundOf c)
 cabinetAfter n drainCall c = drained c
+
+-- a cabinet with nothing held
+pub empty-sound : (n : ℕ) (T : Tables) → Lengths n T → Sound n emptyCabinet
+empty-sound n T l =
+    record {
+      some-capacity = l .some-capacity;
+      capacity = l .capacity;
+      small = omega arith;
+      each = tt;
+      placed = placed-of emptyCabinet refl tt tt;
+      rising = tt;
+      viewed = refl;
+    }
 
 -- ---- answers
 

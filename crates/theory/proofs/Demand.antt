@@ -3,35 +3,19 @@ use mathlib.Core.Path.{_≡_, refl, _∙_}
 use mathlib.Core.Bool.{true}
 use mathlib.Core.List.{List}
 use Prim.Native.Nat.{ℕ}
-use native.Mathlib.Omega.{arith}
 use Rattle.model.specs.Cabinet.{Cabinet, emptyCabinet}
 use Rattle.model.specs.Tables.{Tables, encode, decode}
 use Rattle.model.specs.Form.{lengthsFit}
 use Rattle.model.specs.Calls.{setUp}
 use Rattle.model.specs.Log.{Call, Ledger, afterCalls, begun}
-use Rattle.model.specs.Sound.{Sound}
 use Rattle.model.proofs.Keeps.{drain-sound}
-use Rattle.model.proofs.Order.{placed-of}
-use Rattle.model.proofs.Tests.{Lengths, lengths-of}
+use Rattle.model.proofs.Tests.{lengths-of}
 use Rattle.model.proofs.Tables.{held-count, decode-encode}
 use Rattle.model.proofs.Form.{encode-formed}
 use Rattle.theory.specs.Demand.{Drains, Demand3}
 use Rattle.theory.proofs.Invariant.{empty-invariant}
-use Rattle.theory.proofs.Calls.{drained, drain-call, drain-events, drained-history}
+use Rattle.theory.proofs.Calls.{empty-sound, drained, drain-call, drain-events, drained-history}
 use Rattle.theory.proofs.Reached.{Holding, Reached, drained-claim, calls-reached}
-
--- a cabinet with nothing held
-empty-sound : (n : ℕ) (T : Tables) → Lengths n T → Sound n emptyCabinet
-empty-sound n T l =
-    record {
-      some-capacity = l .some-capacity;
-      capacity = l .capacity;
-      small = omega arith;
-      each = tt;
-      placed = placed-of emptyCabinet refl tt tt;
-      rising = tt;
-      viewed = refl;
-    }
 
 set-up-reached : (n : ℕ) (T : Tables) → lengthsFit n T ≡ true → Reached n (begun (setUp n T .tables))
 unfolding setUp

@@ -1,34 +1,38 @@
 -- `answer_numbers::put_timestamp` meets its contract: each arm is a case of the definitions, and the sum fits. Assumes nothing.
-use mathlib.Core.Path.{refl, subst}
+use mathlib.Core.Path.{ap, subst}
 use Prim.Native.Nat.{_<_}
 use native.Mathlib.Omega.{arith}
 use borrow.Author.Needs.{needs}
 use Rattle.model.specs.declared.Turned.{Turned}
-use Rattle.answer_numbers.specs.Numbers.{turnedNumber}
+use Rattle.model.specs.Calls.{turnedGiven}
+use Rattle.answer_numbers.specs.Numbers.{turnedNumber, numbered}
 use Rattle.answer_numbers.proofs.Slices.{one-stored}
 use Rattle.answer_numbers.proofs.put_timestamp.Statement.{statement}
 use Rattle.answer_numbers.proofs.put_timestamp.Tie as tie
 
 add-result : tie.Need-add-result
-add-result c = omega (arith, subst (λ (a : Turned). turnedNumber a < 256) (c .before .answer4 .given .1) (c .before .before .before .pre .1))
+add-result c = omega (arith, subst (λ (a : Turned). turnedNumber (turnedGiven a) < 256) (c .before .answer4 .given .1) (c .before .before .before .pre .1))
+
+returns : tie.Need-returns
+returns c = rw (c .enum-told .given .1)
 
 returns-2 : tie.Need-returns-2
 returns-2 c =
     let s = c .before .before .before in
-    rw (c .before .answer .given .1) (refl, one-stored (s .args .timestamp .now) (s .pre .0) _)
+    rw (c .before .answer .given .1) (ap (numbered _) (one-stored (s .args .timestamp .now) (omega arith) _))
 
 returns-3 : tie.Need-returns-3
 returns-3 c =
     let s = c .before .before .before in
-    rw (c .before .answer2 .given .1) (refl, one-stored (s .args .timestamp .now) (s .pre .0) _)
+    rw (c .before .answer2 .given .1) (ap (numbered _) (one-stored (s .args .timestamp .now) (omega arith) _))
 
 returns-4 : tie.Need-returns-4
 returns-4 c =
     let s = c .before .before .before in
-    rw (c .before .answer3 .given .1) (refl, one-stored (s .args .timestamp .now) (s .pre .0) _)
+    rw (c .before .answer3 .given .1) (ap (numbered _) (one-stored (s .args .timestamp .now) (omega arith) _))
 
 returns-5 : tie.Need-returns-5
-returns-5 c = rw (c .before .answer4 .given .1) (refl, refl)
+returns-5 c = rw (c .before .answer4 .given .1)
 
 pub put-timestamp-spec : {M : Type 1} → statement M
 put-timestamp-spec =
@@ -43,7 +47,7 @@ put-timestamp-spec =
     (λ c. search needs)
     (λ c. search needs)
     add-result
-    (λ c. search needs)
+    returns
     (λ c. search needs)
     returns-2
     (λ c. search needs)

@@ -1,0 +1,117 @@
+// Turn and drain for programs in other languages, as a static library. Each answer is one number, and its values stand in a lent slice.
+use answer_numbers::put_timestamp;
+use answer_numbers::put_totals;
+use checker::drain;
+use checker::turn;
+ghost use mathlib.Core.Path.{_≡_};
+ghost use Rattle.model.specs.Tables.{tables, withTurn};
+ghost use Rattle.model.specs.Calls.{reply};
+ghost use Rattle.answer_numbers.specs.Numbers.{numbered, turnNumbers, drainNumbers};
+
+// One turn: the number of its answer. `timestamp` has one entry, which gets the timestamp of the change whose turn it was.
+#[no_mangle]
+pub extern "C" fn tolbezun_turn(
+    n: usize,
+    held: &[u16],
+    timestamps: &[u64],
+    order: &[u16],
+    status: &mut [u16],
+    withdrawn: &[u16],
+    lengths: &[u16],
+    programs: &[u8],
+    reads: &mut [u16],
+    writes: &mut [u16],
+    sources: &mut [u16],
+    seen: &mut [i32],
+    targets: &mut [u16],
+    written: &mut [i32],
+    view: &mut [i32],
+    timestamp: &mut [u64],
+) -> u8
+    ensures { λ r. ⌜
+        (let T =
+        tables (now (held .entry)) (now (timestamps .entry)) (now (order .entry)) (now (status .entry)) (now (withdrawn .entry))
+        (now (lengths .entry)) (now (programs .entry)) (now (reads .entry)) (now (writes .entry)) (now (sources .entry))
+        (now (seen .entry)) (now (targets .entry)) (now (written .entry)) (now (view .entry)) in
+        reply (numbered r (now (timestamp .exit)))
+        (withTurn T (now (status .exit)) (now (reads .exit)) (now (writes .exit)) (now (sources .exit)) (now (seen .exit))
+        (now (targets .exit)) (now (written .exit)) (now (view .exit)))
+        ≡ turnNumbers n T (now (timestamp .entry)))
+        ⌝ }
+{
+    if timestamp.len() != 1 {
+        return 17;
+    }
+    let answer = turn(
+        n,
+        held,
+        timestamps,
+        order,
+        status,
+        withdrawn,
+        lengths,
+        programs,
+        reads,
+        writes,
+        sources,
+        seen,
+        targets,
+        written,
+        view,
+    );
+    put_timestamp(answer, timestamp)
+}
+
+// A drain: the number of its answer. `totals` has three entries, which get how many turns ran, stood and were cleared.
+#[no_mangle]
+pub extern "C" fn tolbezun_drain(
+    n: usize,
+    held: &[u16],
+    timestamps: &[u64],
+    order: &[u16],
+    status: &mut [u16],
+    withdrawn: &[u16],
+    lengths: &[u16],
+    programs: &[u8],
+    reads: &mut [u16],
+    writes: &mut [u16],
+    sources: &mut [u16],
+    seen: &mut [i32],
+    targets: &mut [u16],
+    written: &mut [i32],
+    view: &mut [i32],
+    totals: &mut [u64],
+) -> u8
+    ensures { λ r. ⌜
+        (let T =
+        tables (now (held .entry)) (now (timestamps .entry)) (now (order .entry)) (now (status .entry)) (now (withdrawn .entry))
+        (now (lengths .entry)) (now (programs .entry)) (now (reads .entry)) (now (writes .entry)) (now (sources .entry))
+        (now (seen .entry)) (now (targets .entry)) (now (written .entry)) (now (view .entry)) in
+        reply (numbered r (now (totals .exit)))
+        (withTurn T (now (status .exit)) (now (reads .exit)) (now (writes .exit)) (now (sources .exit)) (now (seen .exit))
+        (now (targets .exit)) (now (written .exit)) (now (view .exit)))
+        ≡ drainNumbers n T (now (totals .entry)))
+        ⌝ }
+{
+    if totals.len() != 3 {
+        return 1;
+    }
+    let answer = drain(
+        n,
+        held,
+        timestamps,
+        order,
+        status,
+        withdrawn,
+        lengths,
+        programs,
+        reads,
+        writes,
+        sources,
+        seen,
+        targets,
+        written,
+        view,
+    );
+    put_totals(answer, totals)
+}
