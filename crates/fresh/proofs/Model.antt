@@ -11,19 +11,18 @@ use Rattle.machine.specs.Settings.{settingCount, Environment, valueIn, Entry, _
 use Rattle.machine.specs.Run.{run}
 use Rattle.machine.proofs.Settings.{carry-after, length-carry}
 use Rattle.machine.proofs.Lists.{run-agree}
-use Rattle.model.specs.History.{runLists, Change, change, program, withdrawn, History, allSettings}
+use Rattle.model.specs.History.{runLists, Change, change, program, withdrawn, History, tabulate, allSettings}
 use Rattle.model.specs.Book.{freshAfter, freshEnd, bookedAs, bookOf}
 use Rattle.model.specs.Cabinet.{Cabinet, blank, historyOf}
 use Rattle.model.specs.Tables.{Tables, flagNumber, encode, heldCount, decode, programAt}
 use Rattle.model.specs.Sound.{Sound}
 use Rattle.model.proofs.Values.{value-allSettings}
-use Rattle.model.proofs.Tabulate.{length-tabulate}
+use Rattle.model.proofs.Tabulate.{length-tabulate, tabulate-is}
 use Rattle.model.proofs.Order.{changesAt-length, changesAt-get, below-at}
 use Rattle.model.proofs.Tables.{length-short, sound-at, held-count, order-at, withdrawn-at, program-back}
 use Rattle.model.specs.Form.{Formed}
 use Rattle.model.proofs.Form.{facts}
 use Rattle.fresh.specs.HeldRuns.{runPlace, heldRun, HeldPrograms}
-use Rattle.fresh.proofs.Filled.{filled-all}
 
 -- tables in form have what the code relies on
 pub held-programs : {n k : ℕ} {T : Tables} → Formed n T → k ≡ heldCount T → HeldPrograms k (T .order) (T .withdrawn) (T .lengths) (T .programs)
@@ -54,8 +53,10 @@ module _ (env : Environment) where
   -- writes carried into the list are carried into the environment
   pub carry-allSettings : (writes : List Entry) → carry writes (allSettings env) ≡ allSettings (after writes env)
   carry-allSettings writes =
-      filled-all (after writes env) (pos 0) settingCount (carry writes (allSettings env)) (length-carry writes (allSettings env) ∙ length-tabulate settingCount env)
-      (λ s h. ap (λ v. lookup writes s orElse v) (sym (value-allSettings env s h)) ∙ sym (carry-after writes (allSettings env) s (rw (length-tabulate settingCount env) h)))
+      let l = carry writes (allSettings env) in
+      let size : length l ≡ settingCount = length-carry writes (allSettings env) ∙ length-tabulate settingCount env in
+      sym (tabulate-is l (after writes env) (pos 0) (λ s h. ap (λ v. lookup writes s orElse v) (sym (value-allSettings env s (omega arith))) ∙ sym (carry-after writes (allSettings env) s (rw (length-tabulate settingCount env) (omega arith)))))
+      ∙ ap (λ (k : ℕ). tabulate k (after writes env)) size
 
   -- a change run on the list
   place-fresh : (flags : List ℕ) (programs : ℕ → List ℕ) (place : ℕ) (x : Change) → getD flags place 0 ≡ flagNumber (withdrawn x) → programs place ≡ program x → length (program x) ≤ 256 → runPlace flags programs place (allSettings env) ≡ allSettings (freshAfter (bookedAs x) env)

@@ -25,7 +25,7 @@ use Rattle.search.proofs.Model.{positionIn, placed-stamps, listed, place-of, po
 use Rattle.fresh.specs.HeldRuns.{heldRun}
 use Rattle.fresh.proofs.Model.{held-fresh}
 use Rattle.tables.proofs.Faults.{faulty, formed-first}
-use Rattle.queries.specs.Queries.{viewed, valuedAt, standingFound, standingAt}
+use Rattle.queries.specs.Queries.{currentAnswer, asOfAnswer, standingFound, standingAnswer}
 
 -- ---- current value
 
@@ -34,7 +34,7 @@ module _ (n : ℕ) (T : Tables) (s : ℕ) where
   unfolding currentValue
   current-fault e f = rw (faulty n T e (noSetting s ∷ []) f, ne-eqb _ 0 f)
 
-  pub current-formed : Formed n T → viewed (T .view) s ≡ currentValue n T s
+  pub current-formed : Formed n T → currentAnswer (T .view) s ≡ currentValue n T s
   unfolding currentValue
   current-formed g = rw (formed-first g (noSetting s ∷ []))
 
@@ -49,7 +49,7 @@ module _ (n : ℕ) (T : Tables) (t s : ℕ) where
   unfolding valueAsOf
   as-of-fault e f = rw (faulty n T e (noTime t ∷ noSetting s ∷ []) f, ne-eqb _ 0 f)
 
-  pub as-of-formed : {k : ℕ} → Formed n T → k ≡ heldCount T → valuedAt (T .order) (T .timestamps) (T .writes) (T .targets) (T .written) k t s ≡ valueAsOf n T t s
+  pub as-of-formed : {k : ℕ} → Formed n T → k ≡ heldCount T → asOfAnswer (T .order) (T .timestamps) (T .writes) (T .targets) (T .written) k t s ≡ valueAsOf n T t s
   unfolding valueAsOf
   as-of-formed g e = rw (formed-first g (noTime t ∷ noSetting s ∷ []), e, as-of g start s t)
 
@@ -66,7 +66,7 @@ module _ (n : ℕ) (T : Tables) (t : ℕ) where
   unfolding standing
   standing-fault e f = rw (faulty n T e (noTimestamp t ∷ notHeld (decode T) t ∷ []) f, ne-eqb _ 0 f)
 
-  pub standing-formed : {k : ℕ} → Formed n T → k ≡ heldCount T → standingAt (T .order) (T .timestamps) (T .status) (T .withdrawn) k t ≡ standing n T t
+  pub standing-formed : {k : ℕ} → Formed n T → k ≡ heldCount T → standingAnswer (T .order) (T .timestamps) (T .status) (T .withdrawn) k t ≡ standing n T t
   unfolding standing
   standing-formed g e = rw (formed-first g (noTimestamp t ∷ notHeld (decode T) t ∷ []), e) (go (isTimestamp t) (positionIn T t) refl)
     where

@@ -17,12 +17,12 @@ use Rattle.search.specs.Searches.{rankOf, positionOf}
 use Rattle.execution.specs.Raw.{valuesBelow}
 
 -- current value
-abbrev pub viewed : List ℤ → ℕ → Value
-viewed view s = unlessRead (firstOf (noSetting s ∷ [])) value.Refused (value.Is (valueIn view s))
+abbrev pub currentAnswer : List ℤ → ℕ → Value
+currentAnswer view s = unlessRead (firstOf (noSetting s ∷ [])) value.Refused (value.Is (valueIn view s))
 
 -- value as of a timestamp
-abbrev pub valuedAt : List ℕ → List ℕ → List ℕ → List ℕ → List ℤ → ℕ → ℕ → ℕ → Value
-valuedAt order timestamps writes targets written count t s =
+abbrev pub asOfAnswer : List ℕ → List ℕ → List ℕ → List ℕ → List ℤ → ℕ → ℕ → ℕ → Value
+asOfAnswer order timestamps writes targets written count t s =
     unlessRead (firstOf (noTime t ∷ noSetting s ∷ [])) value.Refused
     (value.Is (valuesBelow order writes targets written (rankOf order timestamps t count) s))
 
@@ -33,6 +33,6 @@ standingFound order status withdrawn (some k) =
     let place = getD order k 0 in
     standing.At (getD status place 0) (getD withdrawn place 0)
 
-abbrev pub standingAt : List ℕ → List ℕ → List ℕ → List ℕ → ℕ → ℕ → Standing
-standingAt order timestamps status withdrawn count t =
+abbrev pub standingAnswer : List ℕ → List ℕ → List ℕ → List ℕ → ℕ → ℕ → Standing
+standingAnswer order timestamps status withdrawn count t =
     cond (not (isTimestamp t)) (standing.Refused 4) (standingFound order status withdrawn (positionOf order timestamps t count))

@@ -16,12 +16,12 @@ ghost use lib.ListN.{length};
 ghost use Rattle.model.specs.Tables.{tables};
 ghost use Rattle.model.specs.Calls.{currentValue, valueAsOf, standing, plainReply, plainRun};
 ghost use Rattle.search.specs.Searches.{PlacesWithin, WriteLists};
-ghost use Rattle.queries.specs.Queries.{viewed, valuedAt, standingAt};
+ghost use Rattle.queries.specs.Queries.{currentAnswer, asOfAnswer, standingAnswer};
 
 // The value of a setting in the view, or refusal 5.
 fn setting_value(view: &[i32], setting: usize) -> Value
     requires { ⌜ length (now view) ≡ 1024 ⌝ }
-    ensures { λ r. ⌜ r ≡ viewed (now (view .entry)) setting ⌝ }
+    ensures { λ r. ⌜ r ≡ currentAnswer (now (view .entry)) setting ⌝ }
 {
     if setting < 1024 {
         return Value::Is(view[setting]);
@@ -96,7 +96,7 @@ fn value_at(
         ⌝ }
     ensures { λ r. ⌜
         r
-        ≡ valuedAt (now (order .entry)) (now (timestamps .entry)) (now (writes .entry)) (now (targets .entry)) (now (written .entry))
+        ≡ asOfAnswer (now (order .entry)) (now (timestamps .entry)) (now (writes .entry)) (now (targets .entry)) (now (written .entry))
         count timestamp setting
         ⌝ }
 {
@@ -186,7 +186,7 @@ fn standing_at(
         ⌝ }
     ensures { λ r. ⌜
         r
-        ≡ standingAt (now (order .entry)) (now (timestamps .entry)) (now (status .entry)) (now (withdrawn .entry)) count timestamp
+        ≡ standingAnswer (now (order .entry)) (now (timestamps .entry)) (now (status .entry)) (now (withdrawn .entry)) count timestamp
         ⌝ }
 {
     if !is_timestamp(timestamp) {

@@ -50,16 +50,16 @@ find-none t [] k = refl
 find-none t (c ∷ h) k = rw (ne-eqb (timestamp c) t (omega (arith, k .0))) (find-none t h (k .1))
 
 module _ (t : ℕ) (h : History) (k : ℕ) (s : Split t h k) where
-  find-rest : find t h ≡ find t (drop k h)
-  find-rest = ap (find t) (sym (take-append-drop k h)) ∙ find-after t (take k h) (drop k h) (s .below)
+  find-above : find t h ≡ find t (drop k h)
+  find-above = ap (find t) (sym (take-append-drop k h)) ∙ find-after t (take k h) (drop k h) (s .below)
 
   -- the change at the split is stamped t
   pub find-here : k < length h → timestamp (getD h k blank) ≡ t → find t h ≡ some (getD h k blank)
-  find-here l e = find-rest ∙ ap (find t) (drop-cons h k blank l) ∙ rw (eq-eqb (timestamp (getD h k blank)) t e)
+  find-here l e = find-above ∙ ap (find t) (drop-cons h k blank l) ∙ rw (eq-eqb (timestamp (getD h k blank)) t e)
 
   -- the change at the split is not stamped t, or there is none
   pub find-nowhere : (b : ℕ) → Rising b h → (k < length h → timestamp (getD h k blank) ≡ t → ⊥) → find t h ≡ none
-  find-nowhere b r n = find-rest ∙ go (decLt k (length h))
+  find-nowhere b r n = find-above ∙ go (decLt k (length h))
     where
       go : Dec (k < length h) → find t (drop k h) ≡ none
       go (yes l) =

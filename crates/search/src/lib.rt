@@ -67,8 +67,14 @@ pub fn position(t: u64, count: usize, order: &[u16], timestamps: &[u64]) -> Foun
 
 // The value that the writes of a place give a setting: its last entry counts.
 pub fn written_at(s: u16, place: usize, count: usize, targets: &[u16], written: &[i32]) -> Written
-    requires { ⌜ (place < 4096) × (count ≤ 32) × (32 * place + 32 ≤ length (now targets)) × (32 * place + 32 ≤ length (now written)) ⌝ }
-    ensures { λ r. ⌜ r ≡ writtenOf (lookup (entries count (drop (32 * place) (now (targets .entry))) (drop (32 * place) (now (written .entry)))) s) ⌝ }
+    requires { ⌜
+        (place < 4096) × (count ≤ 32) × (32 * place + 32 ≤ length (now targets)) × (32 * place + 32 ≤ length (now written))
+        ⌝ }
+    ensures { λ r. ⌜
+        r
+        ≡ writtenOf
+        (lookup (entries count (drop (32 * place) (now (targets .entry))) (drop (32 * place) (now (written .entry)))) s)
+        ⌝ }
 {
     let start = 32 * place;
     let mut j = count;
@@ -90,8 +96,14 @@ pub fn previous_write(
     targets: &[u16],
     written: &[i32],
 ) -> Written
-    requires { ⌜ PlacesWithin position (now order) (length (now writes)) × WriteLists (now writes) (now targets) (now written) ⌝ }
-    ensures { λ r. ⌜ r ≡ writtenOf (previousWrite (now (order .entry)) (now (writes .entry)) (now (targets .entry)) (now (written .entry)) s position) ⌝ }
+    requires { ⌜
+        PlacesWithin position (now order) (length (now writes)) × WriteLists (now writes) (now targets) (now written)
+        ⌝ }
+    ensures { λ r. ⌜
+        r
+        ≡ writtenOf
+        (previousWrite (now (order .entry)) (now (writes .entry)) (now (targets .entry)) (now (written .entry)) s position)
+        ⌝ }
 {
     let mut k = position;
     while 0 < k {

@@ -47,9 +47,9 @@ pub record Cleared (T U : Tables) : Type 0 where
   pub view : U .view ≡ allSettings start
 
 module _ (n : ℕ) (T : Tables) where
-  pub lengths-wrong : lengthsFit n T ≡ false → reply (answer.Refused 1) T ≡ setUp n T
+  pub set-up-refused : lengthsFit n T ≡ false → reply (answer.Refused 1) T ≡ setUp n T
   unfolding setUp
-  lengths-wrong e = rw e
+  set-up-refused e = rw e
 
   pub all-cleared : {U : Tables} → lengthsFit n T ≡ true → Cleared T U → reply answer.Done U ≡ setUp n T
   unfolding setUp

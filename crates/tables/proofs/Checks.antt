@@ -5,25 +5,25 @@ use mathlib.Core.List.{List, [], _∷_}
 use Prim.Native.Nat.{ℕ, _≤_, _<_}
 use native.Mathlib.Omega.{arith}
 use borrow.Author.Tests.{le-leb, lt-leb}
-use Rattle.model.specs.Tables.{Tables, heldCount}
 use lib.Dec.{leb}
 use lib.ListN.{drop}
 use Rattle.machine.specs.Form.{allBelow}
+use Rattle.model.specs.Tables.{Tables, heldCount}
 use Rattle.model.specs.Form.{every, lengthTests, lengthsFit, headFits, orderFits, programFits, listFits, unusedFits, inForm}
 use Rattle.model.specs.Refusals.{faultOf}
 
 -- ---- several tests
 
 -- tests joined one by one, as the code joins them
-abbrev pub joined : Bool → List Bool → Bool
-joined a [] = a
-joined a (b ∷ tests) = joined (a && b) tests
+abbrev pub conjoined : Bool → List Bool → Bool
+conjoined a [] = a
+conjoined a (b ∷ tests) = conjoined (a && b) tests
 
-join : (a : Bool) (tests : List Bool) → joined a tests ≡ (a && every tests)
+join : (a : Bool) (tests : List Bool) → conjoined a tests ≡ (a && every tests)
 join a [] = sym (and-true a)
 join a (b ∷ tests) = join (a && b) tests ∙ and-assoc a b (every tests)
 
-pub all-joined : {l tests : List Bool} → l ≡ tests → joined true l ≡ every tests
+pub all-joined : {l tests : List Bool} → l ≡ tests → conjoined true l ≡ every tests
 all-joined {l} e = join true l ∙ ap every e
 
 -- results that are the tests, one after the other
@@ -43,15 +43,15 @@ module _ (n : ℕ) (T : Tables) where
   out-of-range e = rw e at (join true (lengthTests n T))
 
   -- it is in range, and the tests of the lengths are joined one by one
-  pub lengths-tested : (leb 1 n && leb n 4096) ≡ true → joined true (drop 2 (lengthTests n T)) ≡ lengthsFit n T
+  pub lengths-tested : (leb 1 n && leb n 4096) ≡ true → conjoined true (drop 2 (lengthTests n T)) ≡ lengthsFit n T
   unfolding lengthsFit
   lengths-tested e = rw e at (join true (lengthTests n T))
 
 module _ (n : ℕ) (T : Tables) {k : ℕ} (e : k ≡ heldCount T) where
   -- more changes are held than there are places
-  pub too-many : n < k → inForm n T ≡ false
+  pub over-capacity : n < k → inForm n T ≡ false
   unfolding inForm
-  too-many h = rw (lt-leb (heldCount T) n (omega arith))
+  over-capacity h = rw (lt-leb (heldCount T) n (omega arith))
 
   -- the tests of form, joined one by one
   pub form-tested :

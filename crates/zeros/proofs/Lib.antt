@@ -1,1 +1,2 @@
-pub mod Zeroed
+pub mod Gathered
+pub mod Filled

@@ -8,7 +8,7 @@ use lib.ListN.{length, getD}
 use Rattle.search.specs.Searches.{positionOf}
 use Rattle.search.proofs.Answers.{found-at, found-nothing}
 use Rattle.search.proofs.Steps.{position-below}
-use Rattle.queries.specs.Queries.{standingFound, standingAt}
+use Rattle.queries.specs.Queries.{standingFound, standingAnswer}
 use Rattle.queries.proofs.standing_at.Statement.{statement}
 use Rattle.queries.proofs.standing_at.Tie as tie
 
@@ -16,7 +16,7 @@ abbrev entry : tie.After-position → tie.Start
 entry c = c .before .before .before .before .before .before .before
 
 -- the timestamp is one, so the position tells the answer
-told : (c : tie.After-position) {x : Option ℕ} → let a = entry c .args in positionOf (a .order .now) (a .timestamps .now) (a .timestamp) (a .count) ≡ x → standingFound (a .order .now) (a .status .now) (a .withdrawn .now) x ≡ standingAt (a .order .now) (a .timestamps .now) (a .status .now) (a .withdrawn .now) (a .count) (a .timestamp)
+told : (c : tie.After-position) {x : Option ℕ} → let a = entry c .args in positionOf (a .order .now) (a .timestamps .now) (a .timestamp) (a .count) ≡ x → standingFound (a .order .now) (a .status .now) (a .withdrawn .now) x ≡ standingAnswer (a .order .now) (a .timestamps .now) (a .status .now) (a .withdrawn .now) (a .count) (a .timestamp)
 told c e = rw (← e, ← c .before .before .is-timestamp .ensures, c .before .if1 .left)
 
 -- the position that was found, and the place there

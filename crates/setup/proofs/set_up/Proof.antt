@@ -5,7 +5,7 @@ use borrow.Author.Tests.{not-true, not-false}
 use Rattle.model.specs.Tables.{Tables, tables}
 use Rattle.model.specs.Form.{lengthsFit}
 use Rattle.model.proofs.Tests.{lengths-of}
-use Rattle.setup.proofs.Empty.{lengths-wrong, all-cleared}
+use Rattle.setup.proofs.Empty.{set-up-refused, all-cleared}
 use Rattle.setup.proofs.set_up.Statement.{statement}
 use Rattle.setup.proofs.set_up.Tie as tie
 
@@ -18,7 +18,7 @@ abbrev entry : tie.After-lengths-fit → tie.Start
 entry c = c .before .before .before .before .before .before .before .before .before .before .before .before .before .before .before .before .before .before .before .before .before .before .before .before .before .before
 
 returns : tie.Need-returns
-returns c = lengths-wrong _ (lent (entry (c .before))) (sym (c .before .lengths-fit .ensures) ∙ not-true _ (c .if1 .taken))
+returns c = set-up-refused _ (lent (entry (c .before))) (sym (c .before .lengths-fit .ensures) ∙ not-true _ (c .if1 .taken))
 
 right : (c : tie.Else1) → lengthsFit (entry (c .before) .args .n) (lent (entry (c .before))) ≡ true
 right c = sym (c .before .lengths-fit .ensures) ∙ not-false _ (c .if1 .left)

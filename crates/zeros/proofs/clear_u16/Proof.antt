@@ -2,12 +2,12 @@
 use Prim.Native.Nat.{_-_}
 use borrow.Author.Needs.{needs}
 use lib.ListN.{length}
-use Rattle.zeros.proofs.Zeroed.{Filled, fill-none, fill-next, fill-last}
+use Rattle.zeros.proofs.Filled.{Filled, fill-none, fill-next, fill-same}
 use Rattle.zeros.proofs.clear_u16.Statement.{statement}
 use Rattle.zeros.proofs.clear_u16.Tie as tie
 
 abbrev Inv-loop : tie.InvT-loop
-Inv-loop s₀ i₀ s i = Filled 0 i s₀ s
+Inv-loop s₀ i₀ s i = Filled (λ j. 0) 0 i s₀ s
 
 abbrev μ-loop : tie.MeasureT-loop
 μ-loop s₀ i₀ s i = length s₀ - i
@@ -16,7 +16,7 @@ loop-again : tie.Need-loop-again Inv-loop μ-loop
 loop-again c = fill-next (c .loop-test .taken) (c .before .loop .inv)
 
 returns : tie.Need-returns Inv-loop μ-loop
-returns c = fill-last (c .loop-test .left) (c .before .loop .inv)
+returns c = fill-same (c .loop-test .left) (c .before .loop .inv)
 
 pub clear-u16-spec : {M : Type 1} → statement M
 clear-u16-spec =

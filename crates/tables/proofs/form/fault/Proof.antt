@@ -6,7 +6,7 @@ use borrow.Author.Tests.{not-true, not-false}
 use Rattle.model.specs.Tables.{Tables, tables}
 use Rattle.model.specs.Form.{lengthsFit, inForm}
 use Rattle.model.proofs.Tests.{Lengths, lengths-of}
-use Rattle.tables.proofs.Checks.{too-many, form-tested, lengths-wrong, form-wrong, none-wrong}
+use Rattle.tables.proofs.Checks.{over-capacity, form-tested, lengths-wrong, form-wrong, none-wrong}
 use Rattle.tables.proofs.form.fault.Statement.{statement}
 use Rattle.tables.proofs.form.fault.Tie as tie
 
@@ -32,7 +32,7 @@ fits : (c : tie.Else2) → let s = entry (sized c .before) in Lengths (s .args .
 fits c = lengths-of _ _ (right (sized c))
 
 returns-2 : tie.Need-returns-2
-returns-2 c = let t = c .before in form-wrong _ _ (right (t .before)) (too-many _ _ (t .held-count .ensures) (c .if2 .taken))
+returns-2 c = let t = c .before in form-wrong _ _ (right (t .before)) (over-capacity _ _ (t .held-count .ensures) (c .if2 .taken))
 
 -- the place after the count is tested, from each test of form
 abbrev from-heads : tie.After-heads-fit → tie.Else2

@@ -1,23 +1,20 @@
--- Laws of the loops over zeros: one that gathers the bits of a list by or, and one that stores a value at every place.
+-- Laws of a loop that gathers the bits of a slice by or: they are 0 where every element is.
 use mathlib.Core.Path.{_≡_, refl, sym, ap, _∙_}
 use mathlib.Core.Bool.{Bool, true, _&&_, and-true, and-assoc}
 use mathlib.Core.List.{List, [], _∷_}
 use Prim.Native.Nat.{ℕ, suc, _+_, _≤_, _<_}
 use native.Mathlib.Numerals.{add-one}
-use native.Mathlib.Omega.{arith}
 use lib.Bits.{bitOr}
 use lib.Dec.{eqb}
 use lib.IntN.{ℤ, pos}
-use lib.ListN.{length, getD, set, take, drop, replicate, length-set, drop-of-length-le, replicate-append-replicate}
-use lib.Seq.{drop-cons, take-suc-set, take-all}
+use lib.ListN.{length, getD, drop, drop-of-length-le}
+use lib.Seq.{drop-cons}
 use mir.Syntax.{w32}
 use mir.Val.{SFits, ofZ}
 use Rattle.words.specs.Words.{isZero}
 use Rattle.words.proofs.Laws.{zero-bits}
 use Rattle.bytecode.proofs.Bounds.{or-zero}
 use Rattle.model.specs.Form.{allZero, allZeroZ}
-
--- ---- gathering
 
 -- a whole passes a test where the bits gathered from the elements before i are 0 and those from i on pass
 pub record Gathered {A : Type 0} (all : List A → Bool) (any i : ℕ) (s : List A) (whole : Bool) : Type 0 where
@@ -42,25 +39,3 @@ gather-next = next (λ a. eqb a 0) (λ a l. refl) _ 0 refl
 -- signed, by its bits
 pub gather-nextZ : {any i : ℕ} {s : List ℤ} {whole : Bool} → SFits w32 (getD s i (pos 0)) → i < length s → Gathered allZeroZ any i s whole → Gathered allZeroZ (bitOr any (ofZ w32 (getD s i (pos 0)))) (i + 1) s whole
 gather-nextZ f = next isZero (λ a l. refl) _ (pos 0) (zero-bits _ f)
-
--- ---- filling
-
--- the elements before i are the value
-pub record Filled {A : Type 0} (value : A) (i : ℕ) (before s : List A) : Type 0 where
-  pub within : i ≤ length s
-  pub same : length s ≡ length before
-  pub front : take i s ≡ replicate i value
-
-pub fill-none : {A : Type 0} {value : A} {s : List A} → Filled value 0 s s
-fill-none = record { within = omega arith; same = refl; front = refl }
-
-pub fill-next : {A : Type 0} {value : A} {i : ℕ} {before s : List A} → i < length s → Filled value i before s → Filled value (i + 1) before (set s i value)
-fill-next {value = value} {i} {s = s} h f =
-    record {
-      within = rw length-set (omega arith);
-      same = length-set s i value ∙ f .same;
-      front = ap (λ (k : ℕ). take k (set s i value)) (add-one i) ∙ take-suc-set s i value h ∙ rw (f .front) (replicate-append-replicate i 1 value);
-    }
-
-pub fill-last : {A : Type 0} {value : A} {i : ℕ} {before s : List A} → length s ≤ i → Filled value i before s → s ≡ replicate (length before) value
-fill-last {value = value} {i} {before} {s} h f = let e : i ≡ length before = omega arith in sym (take-all i s h) ∙ f .front ∙ ap (λ (k : ℕ). replicate k value) e
