@@ -30,7 +30,7 @@ module _ (n : ℕ) (T : Tables) where
 
   module _ (g : Formed n T) where
     capacity : length (T .order) ≡ n
-    capacity = facts g .lengths .order
+    capacity = facts g .sizes .order
 
     -- what `turn_once` and `turn_all` rely on
     pub formed : Formed (length (T .order)) T
@@ -38,11 +38,11 @@ module _ (n : ℕ) (T : Tables) where
 
     pub turn-done : {a : Turned} {U : Tables} → reply a U ≡ turns.turned T → reply a U ≡ turn n T
     unfolding turn turns.turned
-    turn-done e = rw (g .lengths, g .form) (e ∙ ap (λ (m : ℕ). stepReply m T (decode T) (roundOf (decode T))) capacity)
+    turn-done e = rw (g .sized, g .form) (e ∙ ap (λ (m : ℕ). stepReply m T (decode T) (roundOf (decode T))) capacity)
 
     pub drain-done : {t : Totals} {U : Tables} → reply t U ≡ drained T → reply (drain-answer.Counted t) U ≡ drain n T
     unfolding drain
     drain-done e =
-        rw (g .lengths, g .form)
+        rw (g .sized, g .form)
         (ap (λ (r : Reply Totals). reply (drain-answer.Counted (r .answer)) (r .tables)) e
         ∙ ap (λ (m : ℕ). reply (drain-answer.Counted (totals (drainOf (decode T) .events))) (encode m (withHistory (decode T) (drainOf (decode T) .history) (drainOf (decode T) .view)))) capacity)

@@ -91,7 +91,7 @@ module _ {n : ℕ} {T : Tables} (g : Formed n T) where
 
   -- for `waiting`
   pub placed-status : PlacesWithin (heldCount T) (T .order) (length (T .status))
-  placed-status = record { long = omega (arith, facts g .lengths .order, facts g .form .small); below = λ k h. omega (arith, facts g .form .places k h, facts g .lengths .status, facts g .form .small) }
+  placed-status = record { long = omega (arith, facts g .sizes .order, facts g .form .small); below = λ k h. omega (arith, facts g .form .places k h, facts g .sizes .status, facts g .form .small) }
 
   pub status-of : (k : ℕ) → k < heldCount T → getD (T .status) (getD (T .order) k 0) 0 ≡ statusNumber (status (getD (historyIn T) k blank))
   status-of k h =
@@ -174,7 +174,7 @@ module _ {n : ℕ} {T : Tables} (g : Formed n T) where
     -- for `mark_changed`: the settings that it writes
     targets-part : targetsAt T place ≡ settingsOf (lists here .writes)
     targets-part =
-        sym (settings-entries (getD (T .writes) place 0) (drop (32 * place) (T .targets)) (drop (32 * place) (T .written)) (simp length-drop (omega (arith, facts g .form .writes place (facts g .form .places k h) .short, facts g .lengths .written, place-room))))
+        sym (settings-entries (getD (T .writes) place 0) (drop (32 * place) (T .targets)) (drop (32 * place) (T .written)) (simp length-drop (omega (arith, facts g .form .writes place (facts g .form .places k h) .short, facts g .sizes .written, place-room))))
         ∙ ap settingsOf (wrote g k h)
 
     pub targets-below : (i : ℕ) → i < length (targetsAt T place) → getD (targetsAt T place) i 0 < settingCount

@@ -27,7 +27,7 @@ use Rattle.fresh.specs.HeldRuns.{runPlace, heldRun, HeldPrograms}
 -- tables in form have what the code relies on
 pub held-programs : {n k : ℕ} {T : Tables} → Formed n T → k ≡ heldCount T → HeldPrograms k (T .order) (T .withdrawn) (T .lengths) (T .programs)
 held-programs {n} {k} {T} formed e =
-    let g = facts formed .lengths in
+    let g = facts formed .sizes in
     let f = facts formed .form in
     record {
       limit = heldCount T;

@@ -26,7 +26,7 @@ use Rattle.listing.specs.Listing.{listing}
 -- an answered package on tables in form is laid out as one
 laid-out : (T : Tables) (bytes lent : List ℕ) → Formed capacity T → length lent ≡ 512 → answerNumber (takeInPackage capacity T bytes lent .answer) ≡ 0 → layoutFits bytes ≡ true
 unfolding takeInPackage
-laid-out T bytes lent g sized = rw (g .lengths, g .form, eq-eqb (length lent) 512 sized) (go (layoutFits bytes))
+laid-out T bytes lent g sized = rw (g .sized, g .form, eq-eqb (length lent) 512 sized) (go (layoutFits bytes))
   where
     go : {done : PackageReply} (b : Bool) → answerNumber (cond (eqb (cond (not b) 3 0) 0) done (packageReply (answer.Refused (cond (not b) 3 0)) T lent) .answer) ≡ 0 → b ≡ true
     go true z = refl
@@ -51,7 +51,7 @@ module _ (T : Tables) (fit : lengthsFit capacity T ≡ true) (bytes lent : List 
         }
 
     pub package-lengths : Lengths capacity U
-    package-lengths = facts package-formed .lengths
+    package-lengths = facts package-formed .sizes
 
     -- the lines of the reply are the listing
     pub listed : {before after : List ℕ} {end : ℕ} → Put 0 (replyLines bytes (packageReply b U answers)) before after end → Put 0 (listing T bytes lent) before after end

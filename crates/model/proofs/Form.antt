@@ -11,11 +11,11 @@ use Rattle.model.proofs.Decode.{sound-decode, encode-back}
 
 pub encode-formed : {n : ℕ} {c : Cabinet} → Sound n c → Formed n (encode n c)
 encode-formed {n} {c} s =
-    record { lengths = lengths-fit n (encode n c) (lengths-encode n c s); form = form-fits n (encode n c) (form-encode n c s) }
+    record { sized = lengths-fit n (encode n c) (lengths-encode n c s); form = form-fits n (encode n c) (form-encode n c s) }
 
 -- what proofs use of tables in form: their lengths, their form by place, the sound cabinet that they hold, and that they are its layout
 pub record FormFacts (n : ℕ) (T : Tables) : Type 0 where
-  pub lengths : Lengths n T
+  pub sizes : Lengths n T
   pub form : FormTests n T
   pub sound : Sound n (decode T)
   pub laid : encode n (decode T) ≡ T
@@ -23,6 +23,6 @@ pub record FormFacts (n : ℕ) (T : Tables) : Type 0 where
 -- That the places are distinct, and that the order list has every held place, follows from the rising timestamps.
 pub facts : {n : ℕ} {T : Tables} → Formed n T → FormFacts n T
 facts {n} {T} g =
-    let l = lengths-of n T (g .lengths) in
+    let l = lengths-of n T (g .sized) in
     let f = form-of n T (g .form) in
-    record { lengths = l; form = f; sound = sound-decode n T l f; laid = encode-back n T l f }
+    record { sizes = l; form = f; sound = sound-decode n T l f; laid = encode-back n T l f }

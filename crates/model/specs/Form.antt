@@ -144,5 +144,5 @@ inForm n T = every (formTests n T)
 
 -- tables of the right lengths, in form
 pub record Formed (n : ℕ) (T : Tables) : Type 0 where
-  pub lengths : lengthsFit n T ≡ true
+  pub sized : lengthsFit n T ≡ true
   pub form : inForm n T ≡ true

@@ -44,7 +44,7 @@ answered-on {before} more j k e = record { answered = λ {n} T g. k .answered (m
 -- an item called on tables that hold a sound cabinet: its answer, and the cabinet after it
 next-item : {n : ℕ} {c : Cabinet} {T U : Tables} (i : Item) {a : Answer} → Sound n c → T ≡ encode n c → reply a U ≡ itemCall n T i → (a ≡ itemAnswer n c i) × (U ≡ encode n (itemStep n c i))
 next-item {n} {c} {T} {U} i {a} s e q =
-    let called = rw (e, encode-formed s .lengths, encode-formed s .form, decode-encode n c s) at q in (
+    let called = rw (e, encode-formed s .sized, encode-formed s .form, decode-encode n c s) at q in (
       ap (λ (r : Reply Answer). r .answer) called,
       ap (λ (r : Reply Answer). r .tables) called ∙ sym (of-answer (encode n) (itemAnswer n c i) refl refl),
     )
@@ -70,7 +70,7 @@ module _ {bytes lent : List ℕ} {before : Tables → Tables} (r : EntriesReady 
     still-formed = carried-faultless now (facts (r .formed .formed) .sound)
 
     pub still-lengths : Lengths (r .formed .capacity) (after (r .formed .others))
-    still-lengths = facts still-formed .lengths
+    still-lengths = facts still-formed .sizes
 
     -- the answer bytes are as many as were lent
     pub still-sized : length answers ≡ length lent

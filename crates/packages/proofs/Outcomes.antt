@@ -50,4 +50,4 @@ module _ (n : ℕ) (T : Tables) (bytes lent : List ℕ) where
     -- every entry is carried out
     pub package-done : {j body : ℕ} {U : Tables} {answers : List ℕ} → Formed n T → layoutFits bytes ≡ true → entryCount bytes ≤ j → Carried n (decode T) bytes lent j body U answers → packageReply answer.Done U answers ≡ takeInPackage n T bytes lent
     unfolding takeInPackage
-    package-done g e h k = rw (eq-eqb _ 512 sized, g .lengths, g .form, e) (ap₂ (packageReply answer.Done) (carried-tables k h) (carried-answers k h))
+    package-done g e h k = rw (eq-eqb _ 512 sized, g .sized, g .form, e) (ap₂ (packageReply answer.Done) (carried-tables k h) (carried-answers k h))

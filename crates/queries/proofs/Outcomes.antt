@@ -42,7 +42,7 @@ module _ (n : ℕ) (T : Tables) (s : ℕ) where
 
 -- what the search asks
 pub as-of-asks : {n k : ℕ} {T : Tables} → Formed n T → k ≡ heldCount T → PlacesWithin k (T .order) (length (T .timestamps)) × (length (T .writes) ≡ length (T .timestamps)) × WriteLists (T .writes) (T .targets) (T .written)
-as-of-asks g e = rw e (placed-stamps g, omega (arith, facts g .lengths .writes, facts g .lengths .timestamps), listed g)
+as-of-asks g e = rw e (placed-stamps g, omega (arith, facts g .sizes .writes, facts g .sizes .timestamps), listed g)
 
 module _ (n : ℕ) (T : Tables) (t s : ℕ) where
   pub as-of-fault : {r : ℕ} → r ≡ faultOf n T → (r ≡ 0 → ⊥) → value.Refused r ≡ valueAsOf n T t s
@@ -58,7 +58,7 @@ module _ (n : ℕ) (T : Tables) (t s : ℕ) where
 -- what the search asks
 pub standing-asks : {n k : ℕ} {T : Tables} → Formed n T → k ≡ heldCount T → PlacesWithin k (T .order) (length (T .timestamps)) × (length (T .status) ≡ length (T .timestamps)) × (length (T .withdrawn) ≡ length (T .timestamps))
 standing-asks g e =
-    let l = facts g .lengths in
+    let l = facts g .sizes in
     rw e (placed-stamps g, omega (arith, l .status, l .timestamps), omega (arith, l .withdrawn, l .timestamps))
 
 module _ (n : ℕ) (T : Tables) (t : ℕ) where
@@ -94,4 +94,4 @@ module _ (n : ℕ) (T : Tables) (settings : List ℤ) where
 
     pub plain-done : {k : ℕ} {values : List ℤ} → Formed n T → k ≡ heldCount T → values ≡ heldRun (T .order) (T .withdrawn) (programAt T) (allSettings start) k → plainReply answer.Done values ≡ plainRun n T settings
     unfolding plainRun
-    plain-done g e h = rw (eq-eqb _ settingCount l, g .lengths, g .form) (ap (plainReply answer.Done) (h ∙ ap (heldRun (T .order) (T .withdrawn) (programAt T) (allSettings start)) e ∙ held-fresh g start))
+    plain-done g e h = rw (eq-eqb _ settingCount l, g .sized, g .form) (ap (plainReply answer.Done) (h ∙ ap (heldRun (T .order) (T .withdrawn) (programAt T) (allSettings start)) e ∙ held-fresh g start))

@@ -115,7 +115,7 @@ module _ {T₀ : Tables} {at : ℕ} {before : List ℕ} {T : Tables} {text : Lis
   turning-short = omega (arith, k .short)
 
   pub turning-lengths : Lengths capacity T
-  turning-lengths = facts (k .formed) .lengths
+  turning-lengths = facts (k .formed) .sizes
 
   -- after the idle turn
   pub turning-ends : idle ≡ true → TurnsPut T₀ at before text (T .view) end

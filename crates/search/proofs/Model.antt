@@ -52,22 +52,22 @@ module _ {n : ℕ} {T : Tables} (g : Formed n T) where
 
   pub placed : (k limit : ℕ) → k ≤ heldCount T → limit ≡ n → PlacesWithin k (T .order) limit
   placed k limit h m =
-      record { long = omega (arith, facts g .lengths .order, facts g .form .small); below = λ j l. omega (arith, facts g .form .places j (omega arith), facts g .form .small) }
+      record { long = omega (arith, facts g .sizes .order, facts g .form .small); below = λ j l. omega (arith, facts g .form .places j (omega arith), facts g .form .small) }
 
   -- for `rank` and `position`
   pub placed-stamps : PlacesWithin (heldCount T) (T .order) (length (T .timestamps))
-  placed-stamps = placed (heldCount T) (length (T .timestamps)) (omega arith) (facts g .lengths .timestamps)
+  placed-stamps = placed (heldCount T) (length (T .timestamps)) (omega arith) (facts g .sizes .timestamps)
 
   -- for `previous_write`
   pub placed-writes : (k : ℕ) → k ≤ heldCount T → PlacesWithin k (T .order) (length (T .writes))
-  placed-writes k h = placed k (length (T .writes)) h (facts g .lengths .writes)
+  placed-writes k h = placed k (length (T .writes)) h (facts g .sizes .writes)
 
   pub listed : WriteLists (T .writes) (T .targets) (T .written)
   listed =
       record {
-        capacity = omega (arith, facts g .lengths .writes, facts g .lengths .capacity);
-        target-slots = omega (arith, facts g .lengths .writes, facts g .lengths .targets);
-        value-slots = omega (arith, facts g .lengths .writes, facts g .lengths .written);
+        capacity = omega (arith, facts g .sizes .writes, facts g .sizes .capacity);
+        target-slots = omega (arith, facts g .sizes .writes, facts g .sizes .targets);
+        value-slots = omega (arith, facts g .sizes .writes, facts g .sizes .written);
         short = λ i. rw (← (facts g .laid), writes-at n (decode T) i) (short-writes (decode T .changes) i (facts g .sound .each));
       }
 

@@ -29,8 +29,8 @@ module _ (n : ℕ) (T : Tables) {r : ℕ} (e : r ≡ faultOf n T) where
 
   -- and without one they are in form
   pub faultless : r ≡ 0 → Formed n T
-  faultless z = let both = passed (lengthsFit n T) (inForm n T) (sym e ∙ z) in record { lengths = both .0; form = both .1 }
+  faultless z = let both = passed (lengthsFit n T) (inForm n T) (sym e ∙ z) in record { sized = both .0; form = both .1 }
 
 -- tables in form are refused by what is tested after that alone
 pub formed-first : {n : ℕ} {T : Tables} → Formed n T → (rest : List Test) → firstOf (wrongLengths n T ∷ notInForm n T ∷ rest) ≡ firstOf rest
-formed-first g rest = rw (g .lengths, g .form)
+formed-first g rest = rw (g .sized, g .form)

@@ -63,7 +63,7 @@ module _ {n : ℕ} {T : Tables} (g : Formed n T) {t count position : ℕ} (r : A
 
   pub place-held : stampedAt (T .order) (T .timestamps) t count position ≡ true → HeldAt T position
   place-held e =
-      let l = facts g .lengths in
+      let l = facts g .sizes in
       let f = facts g .form in
       let h = f .places position (found e .0) in
       record {
@@ -77,10 +77,10 @@ module _ {n : ℕ} {T : Tables} (g : Formed n T) {t count position : ℕ} (r : A
     pub room-left : (count ≡ length (T .timestamps) → ⊥) → Room n T p count position
     room-left f =
         record {
-          next = omega (arith, f, r .counted, facts g .form .small, facts g .lengths .timestamps);
+          next = omega (arith, f, r .counted, facts g .form .small, facts g .sizes .timestamps);
           positioned = omega (arith, r .ranked, rank-within (T .order) (T .timestamps) t count);
           short = length-short p (a .sized);
-          slots = facts g .lengths;
+          slots = facts g .sizes;
         }
 
     -- the timestamp is held
@@ -95,7 +95,7 @@ module _ {n : ℕ} {T : Tables} (g : Formed n T) {t count position : ℕ} (r : A
     module _ (e : stampedAt (T .order) (T .timestamps) t count position ≡ false) where
       -- it is not, and no place is left
       pub full-replied : count ≡ length (T .timestamps) → reply (answer.Refused 9) T ≡ itemCall n T (taking t p)
-      full-replied q = item-replied (taking t p) g (none-left n (decode T) t p a (free e) (omega (arith, r .counted, held-changes g, facts g .lengths .timestamps))) refl
+      full-replied q = item-replied (taking t p) g (none-left n (decode T) t p a (free e) (omega (arith, r .counted, held-changes g, facts g .sizes .timestamps))) refl
 
       -- one is left, and the change is stored there
       pub done-replied : {order programs : List ℕ} → (count ≡ length (T .timestamps) → ⊥) → order ≡ entered count position (T .order) → programs ≡ copied p (256 * count) (T .programs) → reply answer.Done (withTaking T (set (T .held) 0 (count + 1)) (set (T .timestamps) count t) order (set (T .lengths) count (length p / 8)) programs) ≡ itemCall n T (taking t p)

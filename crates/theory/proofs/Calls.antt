@@ -65,22 +65,22 @@ empty-sound n T l =
 module _ {n : ℕ} {c : Cabinet} (s : Sound n c) where
   pub item-call : (i : Item) → itemCall n (encode n c) i ≡ record { answer = itemAnswer n c i; tables = encode n (itemStep n c i) }
   item-call i =
-      rw (encode-formed s .lengths, encode-formed s .form, decode-encode n c s)
+      rw (encode-formed s .sized, encode-formed s .form, decode-encode n c s)
       (ap (λ (T : Tables). record { answer = itemAnswer n c i; tables = T }) (sym (of-answer (encode n) (itemAnswer n c i) refl refl)))
 
   pub turn-call : turn n (encode n c) ≡ stepReply n (encode n c) c (roundOf c)
   unfolding turn
-  turn-call = rw (encode-formed s .lengths, encode-formed s .form, decode-encode n c s)
+  turn-call = rw (encode-formed s .sized, encode-formed s .form, decode-encode n c s)
 
   pub turn-events : turnEvents n (encode n c) ≡ stepEvents (roundOf c)
-  turn-events = rw (encode-formed s .lengths, encode-formed s .form, decode-encode n c s)
+  turn-events = rw (encode-formed s .sized, encode-formed s .form, decode-encode n c s)
 
   pub drain-call : drain n (encode n c) ≡ record { answer = drain-answer.Counted (totals (drainOf c .events)); tables = encode n (drained c) }
   unfolding drain
-  drain-call = rw (encode-formed s .lengths, encode-formed s .form, decode-encode n c s)
+  drain-call = rw (encode-formed s .sized, encode-formed s .form, decode-encode n c s)
 
   pub drain-events : drainEvents n (encode n c) ≡ drainOf c .events
-  drain-events = rw (encode-formed s .lengths, encode-formed s .form, decode-encode n c s)
+  drain-events = rw (encode-formed s .sized, encode-formed s .form, decode-encode n c s)
 
   pub drained-history : historyOf (drained c) ≡ drainOf c .history
   drained-history = withHistory-history c (drainOf c .history) (drainOf c .view) (s .placed) (keeps-length (drain-keeps start (historyOf c) (c .view)))

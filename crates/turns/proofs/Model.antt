@@ -127,21 +127,21 @@ module _ (T : Tables) (g : Formed (length (T .order)) T) where
     positioned =
         record {
           held = held;
-          ordered = omega (arith, facts g .form .small, facts g .lengths .order);
-          few = omega (arith, facts g .form .small, facts g .lengths .capacity);
-          small = omega (arith, facts g .lengths .capacity, facts g .lengths .writes);
-          place = omega (arith, place-held, facts g .form .small, facts g .lengths .writes);
+          ordered = omega (arith, facts g .form .small, facts g .sizes .order);
+          few = omega (arith, facts g .form .small, facts g .sizes .capacity);
+          small = omega (arith, facts g .sizes .capacity, facts g .sizes .writes);
+          place = omega (arith, place-held, facts g .form .small, facts g .sizes .writes);
         }
 
     pub decidable : acts.Decidable k (heldCount T) (T .order) (T .status) (T .withdrawn) (T .reads) (T .sources) (T .seen) (T .writes) (T .targets) (T .written)
     decidable =
         record {
           at = positioned;
-          status-slots = facts g .lengths .status ∙ sym (facts g .lengths .writes);
-          flag-slots = facts g .lengths .withdrawn ∙ sym (facts g .lengths .writes);
-          read-counts = facts g .lengths .reads ∙ sym (facts g .lengths .writes);
-          source-slots = omega (arith, facts g .lengths .sources, facts g .lengths .writes);
-          seen-slots = omega (arith, facts g .lengths .seen, facts g .lengths .writes);
+          status-slots = facts g .sizes .status ∙ sym (facts g .sizes .writes);
+          flag-slots = facts g .sizes .withdrawn ∙ sym (facts g .sizes .writes);
+          read-counts = facts g .sizes .reads ∙ sym (facts g .sizes .writes);
+          source-slots = omega (arith, facts g .sizes .sources, facts g .sizes .writes);
+          seen-slots = omega (arith, facts g .sizes .seen, facts g .sizes .writes);
           short = facts g .form .reads place place-held .short;
           placed = placed-writes g k (omega (arith, held));
           listed = listed g;
@@ -150,10 +150,10 @@ module _ (T : Tables) (g : Formed (length (T .order)) T) where
     pub runnable : acts.Runnable k (T .order) (T .lengths) (T .programs) (T .writes) (T .targets) (T .written)
     runnable =
         record {
-          ordered = omega (arith, held, facts g .form .small, facts g .lengths .order);
-          place = omega (arith, place-held, facts g .form .small, facts g .lengths .lengths);
-          small = omega (arith, facts g .lengths .capacity, facts g .lengths .lengths);
-          blocks = omega (arith, facts g .lengths .programs, facts g .lengths .lengths);
+          ordered = omega (arith, held, facts g .form .small, facts g .sizes .order);
+          place = omega (arith, place-held, facts g .form .small, facts g .sizes .lengths);
+          small = omega (arith, facts g .sizes .capacity, facts g .sizes .lengths);
+          blocks = omega (arith, facts g .sizes .programs, facts g .sizes .lengths);
           short = facts g .form .programs place place-held .short;
           formed = program-formed g k held;
           placed = placed-writes g k (omega (arith, held));
@@ -167,9 +167,9 @@ module _ (T : Tables) (g : Formed (length (T .order)) T) where
     propagable =
         record {
           at = positioned;
-          status-slots = facts g .lengths .status ∙ sym (facts g .lengths .writes);
-          read-counts = facts g .lengths .reads ∙ sym (facts g .lengths .writes);
-          source-slots = omega (arith, facts g .lengths .sources, facts g .lengths .writes);
+          status-slots = facts g .sizes .status ∙ sym (facts g .sizes .writes);
+          read-counts = facts g .sizes .reads ∙ sym (facts g .sizes .writes);
+          source-slots = omega (arith, facts g .sizes .sources, facts g .sizes .writes);
           short = facts g .form .writes place place-held .short;
           settings = targets-below g k held;
           walkable = walkable-form g;
@@ -182,12 +182,12 @@ module _ (T : Tables) (g : Formed (length (T .order)) T) where
     pub slots : Slots T k
     slots =
         record {
-          counted = omega (arith, facts g .lengths .held);
-          position = omega (arith, held, facts g .form .small, facts g .lengths .capacity);
-          order = omega (arith, held, facts g .form .small, facts g .lengths .order);
-          place = omega (arith, place-held, facts g .form .small, facts g .lengths .capacity);
-          timestamps = omega (arith, place-held, facts g .form .small, facts g .lengths .timestamps);
-          status = omega (arith, place-held, facts g .form .small, facts g .lengths .status);
+          counted = omega (arith, facts g .sizes .held);
+          position = omega (arith, held, facts g .form .small, facts g .sizes .capacity);
+          order = omega (arith, held, facts g .form .small, facts g .sizes .order);
+          place = omega (arith, place-held, facts g .form .small, facts g .sizes .capacity);
+          timestamps = omega (arith, place-held, facts g .form .small, facts g .sizes .timestamps);
+          status = omega (arith, place-held, facts g .form .small, facts g .sizes .status);
         }
 
     -- ---- the turn, by what is done
@@ -312,7 +312,7 @@ module _ (T : Tables) (g : Formed (length (T .order)) T) where
 
     -- what `install` relies on
     pub installable : (l : raw.NewLists) → raw.Sized l → raw.Propagable k (heldCount T) (T .order) (T .status) (T .reads) (T .sources) (T .writes) (T .targets) (T .written) × raw.Sized l × (length (T .seen) ≡ 32 * length (T .writes)) × (length (T .view) ≡ settingCount)
-    installable l z = (propagable, z, decidable .seen-slots, facts g .lengths .view)
+    installable l z = (propagable, z, decidable .seen-slots, facts g .sizes .view)
 
     -- what `install` leaves
     abbrev pub Installed : raw.NewLists → List ℕ → List ℕ → List ℕ → List ℕ → List ℤ → List ℕ → List ℤ → List ℤ → Type 0

@@ -49,10 +49,10 @@ loop-again c =
 
 -- the lengths at the start and at the end
 at-start : (c : tie.After-loop Inv-loop μ-loop) → let T = lent (entry (c .before)) in Lengths (length (T .order)) T
-at-start c = let s = entry (c .before) in facts (s .pre) .lengths
+at-start c = let s = entry (c .before) in facts (s .pre) .sizes
 
 at-end : (c : tie.After-loop Inv-loop μ-loop) → let l = c .before in let a = entry l .args in Lengths (length (a .order .now)) (tables (a .held .now) (a .timestamps .now) (a .order .now) (l .loop .status) (a .withdrawn .now) (a .lengths .now) (a .programs .now) (l .loop .reads) (l .loop .writes) (l .loop .sources) (l .loop .seen) (l .loop .targets) (l .loop .written) (l .loop .view))
-at-end c = facts (c .before .loop .inv .formed) .lengths
+at-end c = facts (c .before .loop .inv .formed) .sizes
 
 returns : tie.Need-returns Inv-loop μ-loop
 returns c = let l = c .before in drain-ends-here _ (l .loop .inv .formed) (l .loop .inv) (c .loop-test .left)

@@ -86,7 +86,7 @@ loop-again c =
 
 -- the lengths at the entry and at the end
 begun : (s : tie.Start Inv-loop μ-loop) → Lengths (s .pre .formed .capacity) (lent s (s .pre .formed .others))
-begun s = facts (s .pre .formed .formed) .lengths
+begun s = facts (s .pre .formed .formed) .sizes
 
 ended : (c : tie.At-loop Inv-loop μ-loop) → Lengths (start c .pre .formed .capacity) (current c (start c .pre .formed .others))
 ended c = still-lengths (start c .pre) (c .loop .inv .1)

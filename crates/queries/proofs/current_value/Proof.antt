@@ -27,4 +27,4 @@ returns-2 c = c .setting-value .ensures ∙ current-formed _ _ _ (fits (c .befor
 
 pub current-value-spec : {M : Type 1} → statement M
 current-value-spec =
-    tie.close (tie.spec (λ c κs. tt) returns (λ c κs. facts (fits c) .lengths .view) returns-2)
+    tie.close (tie.spec (λ c κs. tt) returns (λ c κs. facts (fits c) .sizes .view) returns-2)

@@ -63,7 +63,7 @@ plain-run-spec =
     returns
     (λ c κs. tt)
     returns-2
-    (λ c κs. facts (fits c) .lengths .held)
+    (λ c κs. facts (fits c) .sizes .held)
     (λ c. refl)
     (λ c κs. refl)
     (λ c. sym (filled c .fill-start .kept .0))

@@ -31,4 +31,4 @@ returns-2 c = let h = c .before in c .standing-at .ensures ∙ standing-formed _
 pub standing-spec : {M : Type 1} → statement M
 standing-spec =
     tie.close
-    (tie.spec (λ c κs. tt) returns (λ c κs. facts (fits c) .lengths .held) standing-at-requires returns-2)
+    (tie.spec (λ c κs. tt) returns (λ c κs. facts (fits c) .sizes .held) standing-at-requires returns-2)

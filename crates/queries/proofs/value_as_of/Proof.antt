@@ -31,4 +31,4 @@ returns-2 c = let h = c .before in c .value-at .ensures ∙ as-of-formed _ _ _ _
 pub value-as-of-spec : {M : Type 1} → statement M
 value-as-of-spec =
     tie.close
-    (tie.spec (λ c κs. tt) returns (λ c κs. facts (fits c) .lengths .held) value-at-requires returns-2)
+    (tie.spec (λ c κs. tt) returns (λ c κs. facts (fits c) .sizes .held) value-at-requires returns-2)

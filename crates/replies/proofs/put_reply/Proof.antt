@@ -68,7 +68,7 @@ put-settings-requires c κs =
     let g = turned c .put-turns in
     let f = listed (turned c .before) .put-entries in
     let e = listed (turned c .before) .before .before in
-    (view-kept (g .kept) ∙ facts (answered e .formed) .lengths .view, omega (arith, f .ensures .1, behind (behind (f .kept)) .0, g .ensures .short, behind-tables (g .kept) .0, entry (e .before) .pre .1 .1))
+    (view-kept (g .kept) ∙ facts (answered e .formed) .sizes .view, omega (arith, f .ensures .1, behind (behind (f .kept)) .0, g .ensures .short, behind-tables (g .kept) .0, entry (e .before) .pre .1 .1))
 
 returns-2 : tie.Need-returns-2
 returns-2 c =

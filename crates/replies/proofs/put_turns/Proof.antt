@@ -63,7 +63,7 @@ loop-again c =
 
 -- the lengths at the start
 at-start : (c : tie.After-loop Inv-loop μ-loop) → Lengths capacity (lent (entry (c .before .before)))
-at-start c = facts (entry (c .before .before) .pre .0) .lengths
+at-start c = facts (entry (c .before .before) .pre .0) .sizes
 
 returns : tie.Need-returns Inv-loop μ-loop
 returns c = turning-ends (c .before .loop .inv) (not-false _ (c .loop-test .left))

@@ -76,13 +76,13 @@ rank-requires : tie.Need-rank-requires
 rank-requires c κs =
     let h = c .before .before in
     let g = entry (passed h .before) .pre .formed in
-    placed g _ _ (omega (arith, h .held-count .ensures)) (facts g .lengths .timestamps)
+    placed g _ _ (omega (arith, h .held-count .ensures)) (facts g .sizes .timestamps)
 
 stamped-at-requires : tie.Need-stamped-at-requires
 stamped-at-requires c κs =
     let r = c .before .before in
     let g = start r .pre .formed in
-    placed g _ _ (omega (arith, counted r .held-count .ensures)) (facts g .lengths .timestamps)
+    placed g _ _ (omega (arith, counted r .held-count .ensures)) (facts g .sizes .timestamps)
 
 -- ---- returns
 
@@ -119,7 +119,7 @@ take-item-spec =
     (tie.spec
     (λ c κs. tt)
     returns
-    (λ c κs. facts (entry (c .before .before) .pre .formed) .lengths .held)
+    (λ c κs. facts (entry (c .before .before) .pre .formed) .sizes .held)
     rank-requires
     stamped-at-requires
     (λ c. omega (arith, holds c .within))

@@ -32,7 +32,7 @@ pub turn-once-spec : {M : Type 1} → statement M
 turn-once-spec =
     tie.close
     (tie.spec
-    (λ c. omega (arith, facts (c .before .before .before .before .before .before .before .before .before .before .before .before .pre) .lengths .held))
+    (λ c. omega (arith, facts (c .before .before .before .before .before .before .before .before .before .before .before .before .pre) .sizes .held))
     (λ c. omega (arith, c .shared-slice-known7 .given 0))
     (λ c κs. let s = c .before .before .before .before .before .before .before .before .before .before .before .before .before in placed-status (s .pre))
     (λ c. search needs)

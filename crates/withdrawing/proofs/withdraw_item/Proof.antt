@@ -30,7 +30,7 @@ lent s T =
     withLent T (a .held .now) (a .timestamps .now) (a .order .now) (a .status .now) (a .withdrawn .now)
 
 lens : (s : tie.Start) → Lengths (s .pre .capacity) (lent s (s .pre .others))
-lens s = facts (s .pre .formed) .lengths
+lens s = facts (s .pre .formed) .sizes
 
 -- ---- the places of the code, from each the one before
 
