@@ -26,11 +26,15 @@ use Rattle.listing.specs.Listing.{listing}
 -- an answered package on tables in form is laid out as one
 laid-out : (T : Tables) (bytes lent : List ℕ) → Formed capacity T → length lent ≡ 512 → answerNumber (takeInPackage capacity T bytes lent .answer) ≡ 0 → layoutFits bytes ≡ true
 unfolding takeInPackage
-laid-out T bytes lent g sized = rw (g .sized, g .form, eq-eqb (length lent) 512 sized) (go (layoutFits bytes))
+laid-out T bytes lent g sized = rw (g .sized, g .form, eq-eqb (length lent) 512 sized) (go _ (layoutFits bytes))
   where
-    go : {done : PackageReply} (b : Bool) → answerNumber (cond (eqb (cond (not b) 3 0) 0) done (packageReply (answer.Refused (cond (not b) 3 0)) T lent) .answer) ≡ 0 → b ≡ true
-    go true z = refl
-    go false z = absurd (omega arith)
+    go : (done : PackageReply) (b : Bool) → answerNumber (cond (eqb (cond (not b) 3 0) 0) done (packageReply (answer.Refused (cond (not b) 3 0)) T lent) .answer) ≡ 0 → b ≡ true
+    go done true z = refl
+    go done false z = absurd (omega arith)
+
+-- the tables that an equation on a package's reply speaks of
+abbrev pub left-tables : {b : Answer} {U : Tables} {answers : List ℕ} {r : PackageReply} → packageReply b U answers ≡ r → Tables
+left-tables {U = U} f = U
 
 -- a package taken in on tables just set up
 module _ (T : Tables) (fit : lengthsFit capacity T ≡ true) (bytes lent : List ℕ) where

@@ -4,7 +4,7 @@ use mathlib.Core.Path.{sym}
 use Prim.Native.Nat.{ℕ}
 use native.Mathlib.Nat.{le-of-eq}
 use lib.ListN.{length-replicate}
-use Rattle.listing.proofs.Replies.{zeros-fit}
+use Rattle.cabinet.proofs.Zeros.{zeros-fit}
 use Rattle.cabinet.proofs.main.Statement.{statement}
 use Rattle.cabinet.proofs.main.Tie as tie
 

@@ -1,12 +1,12 @@
 -- `listing::put_listing` meets its contract: the lines of the reply to the package. Assumes nothing.
-use mathlib.Core.Path.{_∙_}
+use mathlib.Core.Path.{sym, _∙_}
 use native.Mathlib.Omega.{arith}
 use Rattle.io.proofs.Counting.{counts}
 use Rattle.model.specs.Tables.{Tables, tables}
 use Rattle.model.proofs.Tests.{Lengths, lengths-of}
+use Rattle.tables.proofs.Kept.{behind, behind-tables, status-kept, reads-kept, writes-kept, sources-kept, seen-kept, targets-kept, written-kept, view-kept}
 use Rattle.replies.specs.Replies.{capacity}
-use Rattle.tables.proofs.Kept.{behind, behind-tables, held-kept, timestamps-kept, order-kept, status-kept, withdrawn-kept, lengths-kept, programs-kept, reads-kept, writes-kept, sources-kept, seen-kept, targets-kept, written-kept, view-kept}
-use Rattle.listing.proofs.Replies.{package-answered, package-lengths, listed}
+use Rattle.listing.proofs.Replies.{left-tables, package-answered, package-lengths, listed}
 use Rattle.listing.proofs.put_listing.Statement.{statement}
 use Rattle.listing.proofs.put_listing.Tie as tie
 
@@ -27,18 +27,33 @@ prepared c = c .before .before .before .before .before .before .before .before .
 abbrev packaged : tie.After-put-reply-arg16 → tie.After-take-in-package
 packaged c = c .before .before .before .before .before .before .before .before .before .before .before .before .before .before .before .before .before .before .before .before .before .before .before .before .before .before .before .before .before .before .before .before
 
--- the three calls, from the return
-abbrev at-reply : tie.After-slice-known38 → tie.After-put-reply
-at-reply c = c .before .before .before .before .before .before .before .before .before .before .before .before .before .before .before
+-- the call of the reply, from the return
+abbrev replied : tie.After-slice-known38 → tie.After-put-reply
+replied c = c .before .before .before .before .before .before .before .before .before .before .before .before .before .before .before
 
--- the lengths at the start, and after the package is taken in
-at-start : (c : tie.After-set-up) → Lengths capacity (lent (entry c))
-at-start c = lengths-of _ _ (entry c .pre .0)
+-- the lengths of the tables at the start, and after the package is taken in
+at-start : (c : tie.After-slice-known38) → Lengths capacity (lent (entry (prepared (packaged (replied c .before)))))
+at-start c = lengths-of _ _ (entry (prepared (packaged (replied c .before))) .pre .0)
 
-sized : (t : tie.After-take-in-package) → Lengths capacity _
-sized t =
+at-package : (c : tie.After-slice-known38) → Lengths capacity (left-tables (packaged (replied c .before) .take-in-package .ensures))
+at-package c =
+    let t = packaged (replied c .before) in
     let s = entry (prepared t) in
     package-lengths (lent s) (s .pre .0) (s .args .bytes .now) (s .args .answers .now) (prepared t .set-up .ensures) (t .take-in-package .ensures)
+
+put-reply-requires : tie.Need-put-reply-requires
+put-reply-requires c κs =
+    let t = packaged c in
+    let s = entry (prepared t) in
+    (package-answered (lent s) (s .pre .0) (s .args .bytes .now) (s .args .answers .now) (prepared t .set-up .ensures) (t .take-in-package .ensures) (s .pre .1 .0), (behind (behind-tables (behind (t .take-in-package .kept))) .0 ∙ s .pre .1 .0, s .pre .1 .1))
+
+returns : tie.Need-returns
+returns c =
+    let p = replied c .put-reply in
+    let t = packaged (replied c .before) in
+    let s = entry (prepared t) in
+    let l = listed (lent s) (s .pre .0) (s .args .bytes .now) (s .args .answers .now) (prepared t .set-up .ensures) (t .take-in-package .ensures) (p .ensures .0) in
+    (l, counts _ _ (omega (arith, p .ensures .1, behind (behind (behind (behind-tables (p .kept)))) .0, s .pre .1 .1)))
 
 pub put-listing-spec : {M : Type 1} → statement M
 put-listing-spec =
@@ -47,20 +62,20 @@ put-listing-spec =
     (λ c κs. tt)
     (λ c κs. tt)
     put-reply-requires
-    (λ c. held-kept (behind (at-package c .take-in-package .kept)) ∙ held-kept (behind (at-set-up c .set-up .kept)))
-    (λ c. timestamps-kept (behind (at-package c .take-in-package .kept)) ∙ timestamps-kept (behind (at-set-up c .set-up .kept)))
-    (λ c. order-kept (behind (at-package c .take-in-package .kept)) ∙ order-kept (behind (at-set-up c .set-up .kept)))
-    (λ c. status-kept (behind (behind (behind (at-reply c .put-reply .kept)))) ∙ status-kept (behind (at-package c .take-in-package .kept)) ∙ status-kept (behind (at-set-up c .set-up .kept)))
-    (λ c. withdrawn-kept (behind (at-package c .take-in-package .kept)) ∙ withdrawn-kept (behind (at-set-up c .set-up .kept)))
-    (λ c. lengths-kept (behind (at-package c .take-in-package .kept)) ∙ lengths-kept (behind (at-set-up c .set-up .kept)))
-    (λ c. programs-kept (behind (at-package c .take-in-package .kept)) ∙ programs-kept (behind (at-set-up c .set-up .kept)))
-    (λ c. reads-kept (behind (behind (behind (at-reply c .put-reply .kept)))) ∙ reads-kept (behind (at-set-up c .set-up .kept)))
-    (λ c. writes-kept (behind (behind (behind (at-reply c .put-reply .kept)))) ∙ writes-kept (behind (at-set-up c .set-up .kept)))
-    (λ c. sources-kept (behind (behind (behind (at-reply c .put-reply .kept)))) ∙ sources-kept (behind (at-set-up c .set-up .kept)))
-    (λ c. seen-kept (behind (behind (behind (at-reply c .put-reply .kept)))) ∙ seen-kept (behind (at-set-up c .set-up .kept)))
-    (λ c. targets-kept (behind (behind (behind (at-reply c .put-reply .kept)))) ∙ targets-kept (behind (at-set-up c .set-up .kept)))
-    (λ c. written-kept (behind (behind (behind (at-reply c .put-reply .kept)))) ∙ written-kept (behind (at-set-up c .set-up .kept)))
-    (λ c. view-kept (behind (behind (behind (at-reply c .put-reply .kept)))) ∙ view-kept (behind (at-set-up c .set-up .kept)))
-    (λ c. behind (behind-tables (behind (at-package c .take-in-package .kept))) .0)
-    (λ c. behind-tables (behind (behind (behind (at-reply c .put-reply .kept)))) .0)
+    (λ c. at-package c .held ∙ sym (at-start c .held))
+    (λ c. at-package c .timestamps ∙ sym (at-start c .timestamps))
+    (λ c. at-package c .order ∙ sym (at-start c .order))
+    (λ c. status-kept (replied c .put-reply .kept) ∙ at-package c .status ∙ sym (at-start c .status))
+    (λ c. at-package c .withdrawn ∙ sym (at-start c .withdrawn))
+    (λ c. at-package c .lengths ∙ sym (at-start c .lengths))
+    (λ c. at-package c .programs ∙ sym (at-start c .programs))
+    (λ c. reads-kept (replied c .put-reply .kept) ∙ at-package c .reads ∙ sym (at-start c .reads))
+    (λ c. writes-kept (replied c .put-reply .kept) ∙ at-package c .writes ∙ sym (at-start c .writes))
+    (λ c. sources-kept (replied c .put-reply .kept) ∙ at-package c .sources ∙ sym (at-start c .sources))
+    (λ c. seen-kept (replied c .put-reply .kept) ∙ at-package c .seen ∙ sym (at-start c .seen))
+    (λ c. targets-kept (replied c .put-reply .kept) ∙ at-package c .targets ∙ sym (at-start c .targets))
+    (λ c. written-kept (replied c .put-reply .kept) ∙ at-package c .written ∙ sym (at-start c .written))
+    (λ c. view-kept (replied c .put-reply .kept) ∙ at-package c .view ∙ sym (at-start c .view))
+    (λ c. behind (behind-tables (behind (packaged (replied c .before) .take-in-package .kept))) .0)
+    (λ c. behind (behind (behind (behind-tables (replied c .put-reply .kept)))) .0)
     returns)
