@@ -9,7 +9,7 @@ use native.Mathlib.Omega.{arith}
 use borrow.Author.Tests.{leb-true, eqb-true}
 use lib.Dec.{leb, eqb}
 use lib.IntN.{ℤ}
-use lib.ListN.{length, getD, set, take, drop}
+use lib.ListN.{length, getD, set, take}
 use lib.Seq.{paste, paste-suc, length-take-le}
 use Rattle.machine.specs.Form.{lengthFits, wellFormed}
 use Rattle.machine.specs.Settings.{valueIn, entries}
@@ -18,7 +18,7 @@ use Rattle.machine.proofs.Cases.{both}
 use Rattle.model.specs.Tables.{settingsOf, valuesOf}
 use Rattle.model.proofs.Entries.{settings-entries, values-entries, length-entries}
 use Rattle.run_record.specs.declared.Run.{Run}
-use Rattle.run_record.specs.Record.{ended, endingOf, Lists, lists, Sized, outcomeOf, Ran}
+use Rattle.run_record.specs.Record.{ended, endingOf, Lists, lists, Sized, Ran}
 use Rattle.interpreter_exports.specs.Numbers.{refusalOf, endingNumber, outcomeNumber, runRefusal, over, reported, ofRun, reportBy, report}
 
 -- a program that is not refused is short and well formed
@@ -63,13 +63,14 @@ module _ (bytes : List ℕ) (values : List ℤ) (l : Lists) where
   abbrev refusal : ℕ
   refusal = runRefusal bytes (length (l .sources)) (length (l .seen)) (length (l .targets)) (length (l .written))
 
-  pub refused : {r : ℕ} → r ≡ refusal → (r ≡ 0 → ⊥) → reported (16777216 + r) l ≡ report bytes values l
+  -- a refusal leaves the lent lists as they are
+  pub refused : {n r : ℕ} → r ≡ refusal → (r ≡ 0 → ⊥) → n ≡ 16777216 + r → reported n l ≡ report bytes values l
   unfolding report
-  refused {r} e n = go r n ∙ ap (λ (k : ℕ). reportBy k (run (valueIn values) bytes) l) e
+  refused {r = r} e z u = ap (λ (x : ℕ). reported x l) u ∙ go r z ∙ ap (λ (x : ℕ). reportBy x (run (valueIn values) bytes) l) e
     where
-      go : (k : ℕ) → (k ≡ 0 → ⊥) → reported (16777216 + k) l ≡ reportBy k (run (valueIn values) bytes) l
-      go zero n = absurd (n refl)
-      go (suc k) n = refl
+      go : (x : ℕ) → (x ≡ 0 → ⊥) → reported (16777216 + x) l ≡ reportBy x (run (valueIn values) bytes) l
+      go zero z = absurd (z refl)
+      go (suc x) z = refl
 
   -- a run that is not refused has 32 slots in each lent list, and an accepted program
   pub runnable : {r : ℕ} → r ≡ refusal → r ≡ 0 → Sized l × (length bytes ≤ 256) × (wellFormed bytes ≡ true)

@@ -59,6 +59,13 @@ fn run_refusal(program: &[u8], sources: usize, seen: usize, targets: usize, writ
     tolbezun_program_refusal(program)
 }
 
+// The number of a refused run, above that of every run.
+fn refused_number(refusal: u8) -> u32
+    ensures { λ r. ⌜ r ≡ 16777216 + refusal ⌝ }
+{
+    16777216 + refusal as u32
+}
+
 // The first count settings of a list, put over the first of a lent one.
 fn copy_settings(count: usize, list: &[u16; 32], lent: &mut [u16])
     requires { ⌜ (count ≤ 32) × (length (now list) ≡ 32) × (length (now lent) ≡ 32) ⌝ }
@@ -109,7 +116,7 @@ pub extern "C" fn tolbezun_program_run(
         written.len(),
     );
     if refusal != 0 {
-        return 16777216 + refusal as u32;
+        return refused_number(refusal);
     }
     let mut read = [0u16; 32];
     let mut found = [0i32; 32];

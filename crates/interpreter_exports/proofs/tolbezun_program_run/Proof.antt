@@ -36,8 +36,9 @@ lent s = lists (s .args .sources .now) (s .args .seen .now) (s .args .targets .n
 
 returns : tie.Need-returns
 returns c =
-    let s = entry (c .before) in
-    refused (s .args .program .now) (s .args .values .now) (lent s) (c .before .run-refusal .ensures) (c .if1 .taken)
+    let t = c .before in
+    let s = entry (t .before) in
+    refused (s .args .program .now) (s .args .values .now) (lent s) (t .before .run-refusal .ensures) (t .if1 .taken) (c .refused-number .ensures)
 
 -- what a run that is not refused has
 accepted : (c : tie.Else1) → Sized (lent (entry (c .before))) × (length (entry (c .before) .args .program .now) ≤ 256) × (wellFormed (entry (c .before) .args .program .now) ≡ true)
@@ -86,8 +87,7 @@ tolbezun-program-run-spec =
     tie.close
     (tie.spec
     (λ c κs. tt)
-    (λ c. search needs)
-    (λ c. search needs)
+    (λ c κs. tt)
     returns
     run-program-requires
     copy-settings-requires
