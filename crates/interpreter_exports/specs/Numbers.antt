@@ -1,13 +1,15 @@
 -- Answers of the exported functions as numbers.
-use mathlib.Core.Path.{_≡_}
-use mathlib.Core.Bool.{cond}
-use mathlib.Core.List.{List, [], _∷_}
-use Prim.Native.Nat.{ℕ, _+_, _*_}
-use lib.ListN.{length, getD}
-use Rattle.machine.specs.Settings.{entries}
+use mathlib.Core.Bool.{cond, _&&_}
+use mathlib.Core.List.{List, [], _∷_, _++_}
+use Prim.Native.Nat.{ℕ, zero, suc, _+_, _*_}
+use lib.Dec.{eqb}
+use lib.IntN.{ℤ}
+use lib.ListN.{length, getD, drop}
+use Rattle.machine.specs.Settings.{valueIn}
 use Rattle.machine.specs.Form.{lengthFits, wellFormed}
-use Rattle.machine.specs.Run.{Fault, noSetting, readsWritten, writesTwice, Ending, completed, faulted, Outcome}
-use Rattle.run_record.specs.Record.{Lists}
+use Rattle.machine.specs.Run.{Fault, noSetting, readsWritten, writesTwice, Ending, completed, faulted, Outcome, run}
+use Rattle.model.specs.Tables.{settingsOf, valuesOf}
+use Rattle.run_record.specs.Record.{Lists, lists}
 
 -- 6 for a wrong length, 7 for an instruction that is not well formed, else 0
 unfoldable pub refusalOf : List ℕ → ℕ
@@ -28,8 +30,41 @@ abbrev pub outcomeNumber : ℕ → Ending → ℕ
 outcomeNumber lengths completed = lengths
 outcomeNumber lengths (faulted fault place) = lengths + faultNumber fault * 4096 + place * 65536
 
--- the number and the arrays hold the outcome
-pub record Summary (number : ℕ) (l : Lists) (o : Outcome) : Type 0 where
-  pub numbered : number ≡ outcomeNumber (length (o .reads) + length (o .writes) * 64) (o .ending)
-  pub reads : o .reads ≡ entries (length (o .reads)) (l .sources) (l .seen)
-  pub writes : o .writes ≡ entries (length (o .writes)) (l .targets) (l .written)
+-- ---- the run into lent lists
+
+-- the refusal of a run into lists of these lengths: 1 where one of them is not 32, else the program's, 0 for none
+abbrev pub runRefusal : List ℕ → ℕ → ℕ → ℕ → ℕ → ℕ
+runRefusal bytes sources seen targets written =
+    cond (eqb sources 32 && eqb seen 32 && eqb targets 32 && eqb written 32) (refusalOf bytes) 1
+
+-- a list put over the first elements of another; those past it stay
+abbrev pub over : {A : Type 0} → List A → List A → List A
+over new old = new ++ drop (length new) old
+
+-- what the run gives its caller: a number, and what the four lent lists hold
+pub record Report : Type 0 where
+  pub number : ℕ
+  pub lent : Lists
+
+abbrev pub reported : ℕ → Lists → Report
+reported number lent = record { number = number; lent = lent }
+
+-- the outcome's number; its reads and writes stand first in the lent lists
+abbrev pub ofRun : Outcome → Lists → Report
+ofRun o l =
+    reported (outcomeNumber (length (o .reads) + length (o .writes) * 64) (o .ending))
+    (lists
+    (over (settingsOf (o .reads)) (l .sources))
+    (over (valuesOf (o .reads)) (l .seen))
+    (over (settingsOf (o .writes)) (l .targets))
+    (over (valuesOf (o .writes)) (l .written)))
+
+-- a refused run is 16,777,216 + its refusal, and the lists stay; a run's number is below, since its counts and its place are at most 32
+abbrev pub reportBy : ℕ → Outcome → Lists → Report
+reportBy zero o l = ofRun o l
+reportBy (suc refusal) o l = reported (16777216 + suc refusal) l
+
+-- the report of a program's bytes, run on a list of values
+unfoldable pub report : List ℕ → List ℤ → Lists → Report
+report bytes values l =
+    reportBy (runRefusal bytes (length (l .sources)) (length (l .seen)) (length (l .targets)) (length (l .written))) (run (valueIn values) bytes) l

@@ -1,7 +1,7 @@
 -- `interpreter_exports::number_of` meets its contract: the two ways out are those of the outcome's number. Assumes nothing.
 use borrow.Author.Needs.{needs}
 use borrow.Author.Tests.{eq-eqb, ne-eqb}
-use Rattle.interpreter_exports.proofs.Summary.{number-by-state}
+use Rattle.interpreter_exports.proofs.Reports.{number-by-state}
 use Rattle.interpreter_exports.proofs.number_of.Statement.{statement}
 use Rattle.interpreter_exports.proofs.number_of.Tie as tie
 
