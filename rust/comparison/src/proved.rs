@@ -12,19 +12,26 @@ unsafe extern "C" {
     /// 0 if the program is accepted, else the refusal, 6 or 7. Requires nothing.
     fn tolbezun_program_refusal(program: *const u8, program_len: usize) -> u8;
 
-    /// Requires a program that is accepted, and 1,024 values. Returns
-    /// reads + 64 × writes + 4,096 × ending + 65,536 × place; see [`Outcome`].
+    /// Requires nothing. Returns reads + 64 × writes + 4,096 × ending + 65,536 × place, see
+    /// [`Outcome`], or 16,777,216 + the refusal: 1 where a list has not 32 slots, else 6 or 7.
     fn tolbezun_program_run(
         program: *const u8,
         program_len: usize,
         values: *const i32,
         values_len: usize,
-        read_settings: &mut [u16; MAX_INSTRUCTIONS],
-        seen_values: &mut [i32; MAX_INSTRUCTIONS],
-        write_settings: &mut [u16; MAX_INSTRUCTIONS],
-        written_values: &mut [i32; MAX_INSTRUCTIONS],
+        read_settings: *mut u16,
+        read_settings_len: usize,
+        seen_values: *mut i32,
+        seen_values_len: usize,
+        write_settings: *mut u16,
+        write_settings_len: usize,
+        written_values: *mut i32,
+        written_values_len: usize,
     ) -> u32;
 }
+
+/// What the number of a refused run has above the refusal.
+const REFUSED: u32 = 16_777_216;
 
 /// 0 if the program is accepted, else the refusal.
 pub fn refusal(program: &[u8]) -> u8 {
@@ -32,48 +39,67 @@ pub fn refusal(program: &[u8]) -> u8 {
     unsafe { tolbezun_program_refusal(program.as_ptr(), program.len()) }
 }
 
-/// A program that the proved library accepts, as its run requires.
-#[derive(Clone, Copy)]
-pub struct Accepted<'a>(&'a [u8]);
-
-impl<'a> Accepted<'a> {
-    /// Tests the form of the program. The error is the refusal.
-    pub fn new(program: &'a [u8]) -> Result<Self, u8> {
-        match refusal(program) {
-            0 => Ok(Self(program)),
-            refusal => Err(refusal),
-        }
-    }
-
-    /// The bytes of the program.
-    pub fn bytes(self) -> &'a [u8] {
-        self.0
-    }
-
-    /// Runs the program on the given values of the settings. What the outcome held is overwritten.
-    pub fn run_into(self, values: &[i32; SETTINGS], outcome: &mut Outcome) {
-        // SAFETY: an accepted program is borrowed, so its bytes are those that were accepted; the
-        // values are 1,024; the lists are distinct arrays of 32.
-        outcome.result = unsafe {
-            tolbezun_program_run(
-                self.0.as_ptr(),
-                self.0.len(),
-                values.as_ptr(),
-                values.len(),
-                &mut outcome.read_settings,
-                &mut outcome.seen_values,
-                &mut outcome.write_settings,
-                &mut outcome.written_values,
-            )
-        };
+/// Runs the program on the given values of the settings, into lists of any length; settings past the
+/// values are 0. Returns the number of the run; see [`Outcome`]. The error is the refusal.
+///
+/// # Panics
+///
+/// Panics if the library gave a number that is neither a run's nor a refusal's.
+pub fn run_lent(
+    program: &[u8],
+    values: &[i32],
+    read_settings: &mut [u16],
+    seen_values: &mut [i32],
+    write_settings: &mut [u16],
+    written_values: &mut [i32],
+) -> Result<u32, u8> {
+    // SAFETY: pointers and lengths are those of slices, the lists are distinct, and nothing more is
+    // required.
+    let number = unsafe {
+        tolbezun_program_run(
+            program.as_ptr(),
+            program.len(),
+            values.as_ptr(),
+            values.len(),
+            read_settings.as_mut_ptr(),
+            read_settings.len(),
+            seen_values.as_mut_ptr(),
+            seen_values.len(),
+            write_settings.as_mut_ptr(),
+            write_settings.len(),
+            written_values.as_mut_ptr(),
+            written_values.len(),
+        )
+    };
+    match number.checked_sub(REFUSED) {
+        None => Ok(number),
+        Some(refusal @ (1 | 6 | 7)) => Err(refusal as u8),
+        Some(_) => panic!("the number {number} of a run"),
     }
 }
 
-/// Tests the form of the program and, where it is accepted, runs it. The error is the refusal.
+/// Runs the program on the given values of the settings. What the outcome held is overwritten. The
+/// error is the refusal; the outcome is then as it was.
+pub fn run_into(
+    program: &[u8],
+    values: &[i32; SETTINGS],
+    outcome: &mut Outcome,
+) -> Result<(), u8> {
+    outcome.result = run_lent(
+        program,
+        values,
+        &mut outcome.read_settings,
+        &mut outcome.seen_values,
+        &mut outcome.write_settings,
+        &mut outcome.written_values,
+    )?;
+    Ok(())
+}
+
+/// As [`run_into`], into a new outcome.
 pub fn run(program: &[u8], values: &[i32; SETTINGS]) -> Result<Outcome, u8> {
-    let accepted = Accepted::new(program)?;
     let mut outcome = Outcome::EMPTY;
-    accepted.run_into(values, &mut outcome);
+    run_into(program, values, &mut outcome)?;
     Ok(outcome)
 }
 
@@ -88,7 +114,7 @@ pub struct Outcome {
 }
 
 impl Outcome {
-    /// Empty lists: storage for [`Accepted::run_into`].
+    /// Empty lists: storage for [`run_into`].
     pub const EMPTY: Self = Self {
         read_settings: [0; MAX_INSTRUCTIONS],
         seen_values: [0; MAX_INSTRUCTIONS],

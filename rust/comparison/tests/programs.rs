@@ -48,8 +48,7 @@ impl Runs {
     /// The outcome of an accepted program by both.
     #[track_caller]
     fn compare(&mut self, program: &[u8], values: &[i32; SETTINGS]) -> &Outcome {
-        let accepted = proved::Accepted::new(program).expect("the program is accepted");
-        accepted.run_into(values, &mut self.proved);
+        proved::run_into(program, values, &mut self.proved).expect("the program is accepted");
         self.places.clear();
         program::run_visiting(program, values, &mut self.outside, |place| {
             self.places.push(place)
@@ -447,6 +446,163 @@ fn faults_after_full_lists_have_the_same_outcome() {
                 compare(&writes, &[write], 0, Fault::WrittenTwice);
             }
         }
+    }
+}
+
+/// The four lists that a run is lent, of any lengths.
+#[derive(Clone, Debug, PartialEq, Eq)]
+struct Lent {
+    read_settings: Vec<u16>,
+    seen_values: Vec<i32>,
+    write_settings: Vec<u16>,
+    written_values: Vec<i32>,
+}
+
+impl Lent {
+    /// Lists of these lengths, which hold any numbers.
+    fn filled(random: &mut Random, lengths: [usize; 4]) -> Self {
+        let [reads, seen, writes, written] = lengths;
+        Self {
+            read_settings: (0..reads).map(|_| random.bits() as u16).collect(),
+            seen_values: (0..seen).map(|_| random.bits() as i32).collect(),
+            write_settings: (0..writes).map(|_| random.bits() as u16).collect(),
+            written_values: (0..written).map(|_| random.bits() as i32).collect(),
+        }
+    }
+
+    /// The proved run into these lists.
+    fn run(&mut self, program: &[u8], values: &[i32]) -> Result<u32, u8> {
+        proved::run_lent(
+            program,
+            values,
+            &mut self.read_settings,
+            &mut self.seen_values,
+            &mut self.write_settings,
+            &mut self.written_values,
+        )
+    }
+
+    /// Puts the lists of an outcome over the first entries.
+    fn put(&mut self, outcome: &Outcome) {
+        for (place, read) in outcome.reads().iter().enumerate() {
+            self.read_settings[place] = read.setting;
+            self.seen_values[place] = read.value;
+        }
+        for (place, write) in outcome.writes().iter().enumerate() {
+            self.write_settings[place] = write.setting;
+            self.written_values[place] = write.value;
+        }
+    }
+}
+
+/// The number of an outcome by the coding of the exported run.
+fn number_of(outcome: &Outcome) -> u32 {
+    let lengths = outcome.reads().len() + 64 * outcome.writes().len();
+    let ending = outcome.fault().map_or(0, |(fault, place)| {
+        let fault = match fault {
+            Fault::NoSuchSetting => 1,
+            Fault::ReadOfWritten => 2,
+            Fault::WrittenTwice => 3,
+        };
+        4_096 * fault + 65_536 * place
+    });
+    (lengths + ending) as u32
+}
+
+/// Runs into lists of 32 slots that hold any numbers: of accepted programs the number and the first
+/// entries are those of the outside, and what stands past them stays; of refused ones the refusal is
+/// that of the outside, and all stays.
+#[test]
+fn lent_lists_hold_the_same_outcome_and_stay_past_it() {
+    const RUNS: usize = 40_000;
+    let reached = count_reached(RUNS, |random, _, reached| {
+        let values = generate::values(random);
+        let style = random.pick(&[Style::FEW_SETTINGS, Style::ACCESSES, Style::WRITES]);
+        let count = random.below(MAX_INSTRUCTIONS + 1);
+        let mut program = generate::program(random, &style, count);
+        if random.below(3) == 0 {
+            generate::damage(random, &mut program);
+        }
+        let mut lent = Lent::filled(random, [MAX_INSTRUCTIONS; 4]);
+        let mut expected = lent.clone();
+        let answer = program::check(&program).map_or_else(
+            |malformed| Err(malformed.refusal()),
+            |()| {
+                let outcome = program::run(&program, &values);
+                expected.put(&outcome);
+                Ok(number_of(&outcome))
+            },
+        );
+        assert_eq!(
+            lent.run(&program, &*values),
+            answer,
+            "{:#?}",
+            listing(&program)
+        );
+        assert!(lent == expected, "{lent:?}\n{expected:?}");
+        reached.count(match answer {
+            Ok(number) if number < 4_096 => Event::Completed,
+            Ok(_) => Event::Accepted,
+            Err(refusal) => Event::Refused(refusal),
+        });
+    });
+    for event in [
+        Event::Completed,
+        Event::Accepted,
+        Event::Refused(6),
+        Event::Refused(7),
+    ] {
+        reached.assert_at_least(RUNS / 100, event);
+    }
+}
+
+/// A list of another length than 32 is refused 1, whatever the program, and all lists stay. The
+/// outside has no lists of other lengths.
+#[test]
+fn lists_of_other_lengths_are_refused_and_stay() {
+    let mut random = Random::new(0);
+    let values = generate::values(&mut random);
+    let write = Instruction {
+        op: op::WRITE,
+        n: 5,
+        ..Default::default()
+    };
+    let programs = [vec![], assemble(&[write; 1]), vec![0; 7], vec![255; 8]];
+    for program in &programs {
+        for list in 0..4 {
+            for length in (0..=70).chain([1_024]).filter(|&n| n != MAX_INSTRUCTIONS) {
+                let mut lengths = [MAX_INSTRUCTIONS; 4];
+                lengths[list] = length;
+                let mut lent = Lent::filled(&mut random, lengths);
+                let before = lent.clone();
+                assert_eq!(lent.run(program, &*values), Err(1), "{lengths:?}");
+                assert!(lent == before, "{lengths:?}");
+            }
+        }
+        let mut lent = Lent::filled(&mut random, [MAX_INSTRUCTIONS - 1; 4]);
+        let before = lent.clone();
+        assert_eq!(lent.run(program, &*values), Err(1));
+        assert!(lent == before);
+    }
+}
+
+/// Settings past the values are 0.
+#[test]
+fn a_run_on_fewer_values_is_that_on_zeros_past_them() {
+    let mut random = Random::new(0);
+    for length in 0..=SETTINGS {
+        let mut values = generate::values(&mut random);
+        values[length..].fill(0);
+        let program = generate::program(&mut random, &Style::READS, MAX_INSTRUCTIONS);
+        let mut lent = Lent::filled(&mut random, [MAX_INSTRUCTIONS; 4]);
+        let mut expected = lent.clone();
+        let outcome = program::run(&program, &values);
+        expected.put(&outcome);
+        assert_eq!(
+            lent.run(&program, &values[..length]),
+            Ok(number_of(&outcome))
+        );
+        assert!(lent == expected, "{length} values");
     }
 }
 

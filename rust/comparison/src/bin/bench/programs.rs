@@ -3,7 +3,7 @@
 use crate::timing::{best_in_turn, time};
 use comparison::agree;
 use comparison::generate::{self, Random, Style};
-use comparison::proved::{self, Accepted};
+use comparison::proved;
 use outside::program::{self, SETTINGS};
 use std::hint::black_box;
 
@@ -37,7 +37,7 @@ const MIXES: [Mix; 3] = [
 ];
 
 const HEADING: &str = "\
-In ns per program. The lists are not cleared between runs. The run does not test the form.
+In ns per program. The lists are not cleared between runs. Both test the form before they run.
 
                               run                        form
 mix         length  executed  proved  outside  ratio     proved  outside  ratio";
@@ -91,20 +91,22 @@ fn programs(
 }
 
 fn time_run(programs: &[Vec<u8>], values: &[i32; SETTINGS]) -> (f64, f64) {
-    let accepted: Vec<_> = programs
-        .iter()
-        .map(|program| Accepted::new(program).expect("the program is accepted"))
-        .collect();
     let mut proved = proved::Outcome::EMPTY;
     let mut outside = program::Outcome::EMPTY;
     for_each_in_turn(
-        &accepted,
-        |&program| {
-            black_box(program).run_into(black_box(values), &mut proved);
+        programs,
+        |program| {
+            let _ = black_box(proved::run_into(
+                black_box(program),
+                black_box(values),
+                &mut proved,
+            ));
             black_box(&mut proved);
         },
-        |&program| {
-            program::run_into(black_box(program.bytes()), black_box(values), &mut outside);
+        |program| {
+            if black_box(program::check(black_box(program))).is_ok() {
+                program::run_into(black_box(program), black_box(values), &mut outside);
+            }
             black_box(&mut outside);
         },
     )
