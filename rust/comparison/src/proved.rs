@@ -80,11 +80,7 @@ pub fn run_lent(
 
 /// Runs the program on the given values of the settings. What the outcome held is overwritten. The
 /// error is the refusal; the outcome is then as it was.
-pub fn run_into(
-    program: &[u8],
-    values: &[i32; SETTINGS],
-    outcome: &mut Outcome,
-) -> Result<(), u8> {
+pub fn run_into(program: &[u8], values: &[i32; SETTINGS], outcome: &mut Outcome) -> Result<(), u8> {
     outcome.result = run_lent(
         program,
         values,

@@ -517,9 +517,9 @@ fn lent_lists_hold_the_same_outcome_and_stay_past_it() {
     const RUNS: usize = 40_000;
     let reached = count_reached(RUNS, |random, _, reached| {
         let values = generate::values(random);
-        let style = random.pick(&[Style::FEW_SETTINGS, Style::ACCESSES, Style::WRITES]);
+        let style = random.pick(&[&Style::FEW_SETTINGS, &Style::ACCESSES, &Style::WRITES]);
         let count = random.below(MAX_INSTRUCTIONS + 1);
-        let mut program = generate::program(random, &style, count);
+        let mut program = generate::program(random, style, count);
         if random.below(3) == 0 {
             generate::damage(random, &mut program);
         }
