@@ -1,2 +1,3 @@
-pub mod Parts
 pub mod Steps
+pub mod Parts
+pub mod Alters

@@ -4,7 +4,7 @@ use mathlib.Core.Bool.{Bool, true, false}
 use Prim.Native.Nat.{ℕ}
 use borrow.Author.Tests.{eq-eqb, ne-eqb}
 use Rattle.acts.specs.declared.Act.the-variants as act
-use Rattle.acts.specs.Raw.{actOf}
+use Rattle.acts.specs.Acts.{actOf}
 
 module _ (flag status : ℕ) (holds : Bool) where
   pub clears : (flag ≡ 0 → ⊥) → act.Clear ≡ actOf flag status holds

@@ -1,1 +1,2 @@
-pub mod Raw
+pub mod Acts
+pub mod Altered

@@ -1,14 +1,20 @@
-// What a turn does with its change: cleared, stood or run, and the run.
-use execution::run_at;
-use execution::seen_hold;
+// What a turn does with its change: cleared, stood or run; its new lists; and the settings that change with them.
 use run_record::Run;
+use values::carry_list;
+use values::collect_changed;
+use values::know_list;
+use values::run_at;
+use values::seen_hold;
 ghost use mathlib.Core.Path.{_≡_};
-ghost use lib.ListN.{getD};
+ghost use lib.ListN.{length, getD};
+ghost use Rattle.machine.specs.Settings.{entries};
 ghost use Rattle.machine.specs.Run.{run};
 ghost use Rattle.run_record.specs.Record.{lists, Sized, Ran};
-ghost use Rattle.execution.specs.Raw.{valuesBelow};
-ghost use Rattle.acts.specs.Raw as raw;
-ghost use Rattle.model.specs.Tables.{programIn};
+ghost use Rattle.model.specs.History.{allHold};
+ghost use Rattle.model.specs.Tables.{programIn, listIn};
+ghost use Rattle.values.specs.Values.{valuesBelow, Lookable, Looked};
+ghost use Rattle.acts.specs.Acts.{actOf, Decidable, Runnable, Made};
+ghost use Rattle.acts.specs.Altered.{BothWrites, Alterable, Altered};
 
 // What a turn does with its change.
 pub enum Act {
@@ -18,9 +24,8 @@ pub enum Act {
 }
 
 // What the turn of the change at a position does: withdrawn, it is cleared; Invalid with every value seen as of its timestamp, it stands; else it runs.
-pub fn act_at(
+pub fn decide(
     k: usize,
-    count: usize,
     order: &[u16],
     status: &[u16],
     withdrawn: &[u16],
@@ -30,9 +35,17 @@ pub fn act_at(
     writes: &[u16],
     targets: &[u16],
     written: &[i32],
+    before: &mut [i32; 1024],
+    after: &mut [i32; 1024],
+    known: &mut [u8; 1024],
 ) -> Act
-    requires { ⌜ raw.Decidable k count (now order) (now status) (now withdrawn) (now reads) (now sources) (now seen) (now writes) (now targets) (now written) ⌝ }
-    ensures { λ r. ⌜ r ≡ raw.actOf (getD (now (withdrawn .entry)) (getD (now (order .entry)) k 0) 0) (getD (now (status .entry)) (getD (now (order .entry)) k 0) 0) (raw.seenHold (now (reads .entry)) (now (sources .entry)) (now (seen .entry)) (now (order .entry)) (now (writes .entry)) (now (targets .entry)) (now (written .entry)) k) ⌝ }
+    requires { ⌜ Decidable k (now order) (now status) (now withdrawn) (now reads) (now sources) (now seen) (length (now writes))
+        × Lookable k (now order) (now writes) (now targets) (now written) (now known) (now before) (now after) ⌝ }
+    ensures { λ r. ⌜ (let place = getD (now (order .entry)) k 0 in
+        let env = valuesBelow (now (order .entry)) (now (writes .entry)) (now (targets .entry)) (now (written .entry)) k in
+        (r ≡ actOf (getD (now (withdrawn .entry)) place 0) (getD (now (status .entry)) place 0)
+        (allHold (listIn (now (reads .entry)) (now (sources .entry)) (now (seen .entry)) place) env))
+        × Looked env (now (known .entry)) (now (known .exit)) (now (before .exit)) (now (after .exit))) ⌝ }
 {
     let place = order[k] as usize;
     if withdrawn[place] != 0 {
@@ -51,6 +64,9 @@ pub fn act_at(
         writes,
         targets,
         written,
+        before,
+        after,
+        known,
     ) {
         return Act::Stand;
     }
@@ -66,13 +82,22 @@ fn run_change(
     writes: &[u16],
     targets: &[u16],
     written: &[i32],
+    before: &mut [i32; 1024],
+    after: &mut [i32; 1024],
+    known: &mut [u8; 1024],
     new_sources: &mut [u16; 32],
     new_seen: &mut [i32; 32],
     new_targets: &mut [u16; 32],
     new_written: &mut [i32; 32],
 ) -> Run
-    requires { ⌜ raw.Runnable k (now order) (now lengths) (now programs) (now writes) (now targets) (now written) × Sized (lists (now «new_sources») (now «new_seen») (now «new_targets») (now «new_written»)) ⌝ }
-    ensures { λ r. ⌜ Ran r (lists (now («new_sources» .exit)) (now («new_seen» .exit)) (now («new_targets» .exit)) (now («new_written» .exit))) (run (valuesBelow (now (order .entry)) (now (writes .entry)) (now (targets .entry)) (now (written .entry)) k) (programIn (now (lengths .entry)) (now (programs .entry)) (getD (now (order .entry)) k 0))) ⌝ }
+    requires { ⌜ Runnable k (now order) (now lengths) (now programs)
+        × Sized (lists (now «new_sources») (now «new_seen») (now «new_targets») (now «new_written»))
+        × Lookable k (now order) (now writes) (now targets) (now written) (now known) (now before) (now after) ⌝ }
+    ensures { λ r. ⌜ (let env = valuesBelow (now (order .entry)) (now (writes .entry)) (now (targets .entry)) (now (written .entry)) k in
+        Ran r
+        (lists (now («new_sources» .exit)) (now («new_seen» .exit)) (now («new_targets» .exit)) (now («new_written» .exit)))
+        (run env (programIn (now (lengths .entry)) (now (programs .entry)) (getD (now (order .entry)) k 0)))
+        × Looked env (now (known .entry)) (now (known .exit)) (now (before .exit)) (now (after .exit))) ⌝ }
 {
     let place = order[k] as usize;
     let begin = 256 * place;
@@ -84,6 +109,9 @@ fn run_change(
         writes,
         targets,
         written,
+        before,
+        after,
+        known,
         new_sources,
         new_seen,
         new_targets,
@@ -101,13 +129,22 @@ pub fn new_lists(
     writes: &[u16],
     targets: &[u16],
     written: &[i32],
+    before: &mut [i32; 1024],
+    after: &mut [i32; 1024],
+    known: &mut [u8; 1024],
     new_sources: &mut [u16; 32],
     new_seen: &mut [i32; 32],
     new_targets: &mut [u16; 32],
     new_written: &mut [i32; 32],
 ) -> Run
-    requires { ⌜ raw.Runnable k (now order) (now lengths) (now programs) (now writes) (now targets) (now written) × Sized (lists (now «new_sources») (now «new_seen») (now «new_targets») (now «new_written»)) ⌝ }
-    ensures { λ r. ⌜ raw.Made act r (lists (now («new_sources» .exit)) (now («new_seen» .exit)) (now («new_targets» .exit)) (now («new_written» .exit))) (run (valuesBelow (now (order .entry)) (now (writes .entry)) (now (targets .entry)) (now (written .entry)) k) (programIn (now (lengths .entry)) (now (programs .entry)) (getD (now (order .entry)) k 0))) ⌝ }
+    requires { ⌜ Runnable k (now order) (now lengths) (now programs)
+        × Sized (lists (now «new_sources») (now «new_seen») (now «new_targets») (now «new_written»))
+        × Lookable k (now order) (now writes) (now targets) (now written) (now known) (now before) (now after) ⌝ }
+    ensures { λ r. ⌜ (let env = valuesBelow (now (order .entry)) (now (writes .entry)) (now (targets .entry)) (now (written .entry)) k in
+        Made act r
+        (lists (now («new_sources» .exit)) (now («new_seen» .exit)) (now («new_targets» .exit)) (now («new_written» .exit)))
+        (run env (programIn (now (lengths .entry)) (now (programs .entry)) (getD (now (order .entry)) k 0)))
+        × Looked env (now (known .entry)) (now (known .exit)) (now (before .exit)) (now (after .exit))) ⌝ }
 {
     match act {
         Act::Run => run_change(
@@ -118,6 +155,9 @@ pub fn new_lists(
             writes,
             targets,
             written,
+            before,
+            after,
+            known,
             new_sources,
             new_seen,
             new_targets,
@@ -126,4 +166,99 @@ pub fn new_lists(
         Act::Clear => Run::new(),
         Act::Stand => Run::new(),
     }
+}
+
+// The old writes carried into the values before, the new ones into those after: the settings of both at which they differ. Answers how many.
+fn alter_writes(
+    old_targets: &[u16],
+    old_written: &[i32],
+    new_targets: &[u16],
+    new_written: &[i32],
+    k: usize,
+    order: &[u16],
+    writes: &[u16],
+    targets: &[u16],
+    written: &[i32],
+    before: &mut [i32; 1024],
+    after: &mut [i32; 1024],
+    known: &mut [u8; 1024],
+    changed: &mut [u16; 64],
+) -> usize
+    requires { ⌜ BothWrites (now «old_targets») (now «old_written») (now «new_targets») (now «new_written»)
+        × (length (now changed) ≡ 64)
+        × Lookable k (now order) (now writes) (now targets) (now written) (now known) (now before) (now after) ⌝ }
+    ensures { λ r. ⌜ (let env = valuesBelow (now (order .entry)) (now (writes .entry)) (now (targets .entry)) (now (written .entry)) k in
+        let old = entries (length (now («old_targets» .entry))) (now («old_targets» .entry)) (now («old_written» .entry)) in
+        let new = entries (length (now («new_targets» .entry))) (now («new_targets» .entry)) (now («new_written» .entry)) in
+        Altered old new env (now (known .entry)) (now (known .exit)) (now (before .exit)) (now (after .exit)) r (now (changed .exit))) ⌝ }
+{
+    know_list(
+        old_targets,
+        k,
+        order,
+        writes,
+        targets,
+        written,
+        before,
+        after,
+        known,
+    );
+    know_list(
+        new_targets,
+        k,
+        order,
+        writes,
+        targets,
+        written,
+        before,
+        after,
+        known,
+    );
+    carry_list(old_targets, old_written, before);
+    carry_list(new_targets, new_written, after);
+    let count = collect_changed(old_targets, before, after, changed, 0);
+    collect_changed(new_targets, before, after, changed, count)
+}
+
+// The same for the writes of the change at a position and the first size of new ones.
+pub fn alter(
+    k: usize,
+    order: &[u16],
+    writes: &[u16],
+    targets: &[u16],
+    written: &[i32],
+    size: usize,
+    new_targets: &[u16],
+    new_written: &[i32],
+    before: &mut [i32; 1024],
+    after: &mut [i32; 1024],
+    known: &mut [u8; 1024],
+    changed: &mut [u16; 64],
+) -> usize
+    requires { ⌜ Alterable k (now order) (now writes) (now targets) size (now «new_targets») (now «new_written»)
+        × (length (now changed) ≡ 64)
+        × Lookable k (now order) (now writes) (now targets) (now written) (now known) (now before) (now after) ⌝ }
+    ensures { λ r. ⌜ (let env = valuesBelow (now (order .entry)) (now (writes .entry)) (now (targets .entry)) (now (written .entry)) k in
+        let old = listIn (now (writes .entry)) (now (targets .entry)) (now (written .entry)) (getD (now (order .entry)) k 0) in
+        let new = entries size (now («new_targets» .entry)) (now («new_written» .entry)) in
+        Altered old new env (now (known .entry)) (now (known .exit)) (now (before .exit)) (now (after .exit)) r (now (changed .exit))) ⌝ }
+{
+    let place = order[k] as usize;
+    let begin = 32 * place;
+    let end = begin + writes[place] as usize;
+    alter_writes(
+        &targets[begin..end],
+        &written[begin..end],
+        &new_targets[0..size],
+        &new_written[0..size],
+        k,
+        order,
+        writes,
+        targets,
+        written,
+        before,
+        after,
+        known,
+        changed,
+    )
 }

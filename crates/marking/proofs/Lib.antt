@@ -1,7 +1,12 @@
+pub mod Walks
 pub mod Steps
-pub mod Stores
+pub mod Settling
+pub mod LastUses
+pub mod LiveSets
 pub mod Places
-pub mod Live
+pub mod Restated
 pub mod Cabinet
-pub mod Replace
+pub mod Positions
+pub mod Later
+pub mod View
 pub mod Model

@@ -1,148 +1,256 @@
-// What a turn does past its change: later readers of changed settings are marked, and the view follows.
+// Later readers of changed settings are marked, and the view follows, setting by setting. What is known of each setting spares walks in which nothing can be marked.
 ghost use mathlib.Core.Path.{_≡_};
-ghost use Prim.Native.Nat.{ℕ, _+_, _-_, _*_, _<_, _≤_};
-ghost use lib.ListN.{length, getD, take};
-ghost use Rattle.marking.specs.Raw.{readsLive, closed, listAt, markedPlace, markedStatus, liveAfter, followed, replaced, replacedZ, Listed, Walkable};
+ghost use Prim.Native.Nat.{_+_, _-_, _<_, _≤_};
+ghost use lib.ListN.{length, getD};
+ghost use Rattle.machine.specs.Settings.{settingCount};
+ghost use Rattle.model.specs.Form.{holds};
+ghost use Rattle.marking.specs.Marks as marks;
+ghost use Rattle.marking.specs.Uses as uses;
 
-// Whether a list names a live setting.
-fn reads_live(settings: &[u16], live: &[u8]) -> bool
-    requires { ⌜ ((j : ℕ) → j < length (now settings) → getD (now settings) j 0 < length (now live)) ⌝ }
-    ensures { λ r. ⌜ r ≡ readsLive (now (live .entry)) (now (settings .entry)) ⌝ }
+// Whether a list names a setting. Every entry is compared: a loop without an exit is the faster one.
+fn names_setting(s: u16, settings: &[u16]) -> bool
+    ensures { λ r. ⌜ r ≡ holds s (now (settings .entry)) ⌝ }
 {
-    let mut any: u8 = 0;
+    let mut found = false;
     let mut j = 0;
     while j < settings.len() {
-        any = any | live[settings[j] as usize];
+        found = found | (settings[j] == s);
         j += 1;
     }
-    any != 0
+    found
 }
 
-// The settings that a list names are live no more.
-fn close(settings: &[u16], live: &mut [u8])
-    requires { ⌜ ((j : ℕ) → j < length (now settings) → getD (now settings) j 0 < length (now live)) ⌝ }
-    ensures { λ _. ⌜ now (live .exit) ≡ closed (now (settings .entry)) (now (live .entry)) ⌝ }
-{
-    let mut j = 0;
-    while j < settings.len() {
-        live[settings[j] as usize] = 0;
-        j += 1;
-    }
-}
-
-// A Valid change that read a live setting becomes Invalid.
-fn mark_place(place: usize, status: &mut [u16], reads: &[u16], sources: &[u16], live: &[u8])
-    requires { ⌜ (place < length (now status)) × Listed place (now reads) (now sources) × (length (now live) ≡ 1024) ⌝ }
-    ensures { λ _. ⌜ now (status .exit) ≡ markedPlace (now (live .entry)) (now (reads .entry)) (now (sources .entry)) place (now (status .entry)) ⌝ }
-{
-    if status[place] == 1 {
-        let begin = 32 * place;
-        let end = begin + reads[place] as usize;
-        if reads_live(&sources[begin..end], live) {
-            status[place] = 2;
-        }
-    }
-}
-
-// What the change at a place writes is live no more.
-fn close_place(place: usize, writes: &[u16], targets: &[u16], live: &mut [u8])
-    requires { ⌜ Listed place (now writes) (now targets) × (length (now live) ≡ 1024) ⌝ }
-    ensures { λ _. ⌜ now (live .exit) ≡ closed (listAt (now (writes .entry)) (now (targets .entry)) place) (now (live .entry)) ⌝ }
+// Whether the list of a place names a setting.
+fn names_at(s: u16, place: usize, counts: &[u16], settings: &[u16]) -> bool
+    requires { ⌜ marks.Listed place (now counts) (now settings) ⌝ }
+    ensures { λ r. ⌜ r ≡ holds s (marks.listAt (now (counts .entry)) (now (settings .entry)) place) ⌝ }
 {
     let begin = 32 * place;
-    let end = begin + writes[place] as usize;
-    close(&targets[begin..end], live);
+    let end = begin + counts[place] as usize;
+    names_setting(s, &settings[begin..end])
 }
 
-// One change: it is marked, and then what it writes is live no more. So the next writer of a setting is still marked where it read it.
-fn mark_and_close(
+// A Valid change that reads a setting becomes Invalid. Whether it writes the setting.
+fn mark_place(
+    s: u16,
     place: usize,
     status: &mut [u16],
     reads: &[u16],
     sources: &[u16],
     writes: &[u16],
     targets: &[u16],
-    live: &mut [u8],
-)
+) -> bool
     requires { ⌜ (place < length (now status))
-        × Listed place (now reads) (now sources)
-        × Listed place (now writes) (now targets)
-        × (length (now live) ≡ 1024) ⌝ }
-    ensures { λ _. ⌜
-        (now (status .exit) ≡ markedPlace (now (live .entry)) (now (reads .entry)) (now (sources .entry)) place (now (status .entry)))
-        × (now (live .exit) ≡ closed (listAt (now (writes .entry)) (now (targets .entry)) place) (now (live .entry))) ⌝ }
+        × marks.Listed place (now reads) (now sources)
+        × marks.Listed place (now writes) (now targets) ⌝ }
+    ensures { λ r. ⌜ (r ≡ holds s (marks.listAt (now (writes .entry)) (now (targets .entry)) place))
+        × (now (status .exit) ≡ marks.markedPlace s (now (reads .entry)) (now (sources .entry)) place (now (status .entry))) ⌝ }
 {
-    mark_place(place, status, reads, sources, live);
-    close_place(place, writes, targets, live);
+    let writer = names_at(s, place, writes, targets);
+    if status[place] == 1 {
+        if names_at(s, place, reads, sources) {
+            status[place] = 2;
+        }
+    }
+    writer
 }
 
-// From a position of the order list up: a Valid change that read a live setting becomes Invalid, and then what it writes is live no more.
-pub fn mark_later(
+// From a position of the order list up to another: a Valid change that reads the setting becomes Invalid; behind one that writes it the walk ends. Where it ended.
+pub fn mark_setting(
+    s: u16,
     from: usize,
-    count: usize,
+    to: usize,
     order: &[u16],
     status: &mut [u16],
     reads: &[u16],
     sources: &[u16],
     writes: &[u16],
     targets: &[u16],
-    live: &mut [u8],
+) -> usize
+    requires { ⌜ (from ≤ to) × (to ≤ length (now order))
+        × marks.Walkable (marks.columns (now order) (now reads) (now sources) (now writes) (now targets)) (length (now status)) ⌝ }
+    ensures { λ r. ⌜
+        (let C =
+        marks.columns (now (order .entry)) (now (reads .entry)) (now (sources .entry)) (now (writes .entry)) (now (targets .entry)) in
+        (now (status .exit) ≡ marks.markedFrom C s from (to - from) (now (status .entry))) × (r ≡ marks.endFrom C s from (to - from)))
+        ⌝ }
+{
+    let mut p = from;
+    let mut end = to;
+    while p < end {
+        let place = order[p] as usize;
+        let writer = mark_place(s, place, status, reads, sources, writes, targets);
+        p += 1;
+        if writer {
+            end = p;
+        }
+    }
+    p
+}
+
+// A number of a table, as a position.
+fn wide(number: u16) -> usize
+    ensures { λ r. ⌜ (r ≡ number) × (r < 65536) ⌝ }
+{
+    number as usize
+}
+
+// One changed setting: nothing is to be marked where no later Valid change reads it, or where an earlier walk has settled it beyond the position.
+fn mark_unsettled(
+    s: u16,
+    from: usize,
+    order: &[u16],
+    status: &mut [u16],
+    reads: &[u16],
+    sources: &[u16],
+    writes: &[u16],
+    targets: &[u16],
+    readers: &[u16; 1024],
+    settled: &mut [u16; 1024],
 )
-    requires { ⌜ (from ≤ count) × Walkable count (now order) (length (now status)) (now reads) (now sources) (now writes) (now targets) × (length (now live) ≡ 1024) ⌝ }
-    ensures { λ _. ⌜ (now (status .exit) ≡ markedStatus (now (order .entry)) (now (reads .entry)) (now (sources .entry)) (now (writes .entry)) (now (targets .entry)) from (count - from) (now (live .entry)) (now (status .entry))) × (now (live .exit) ≡ liveAfter (now (order .entry)) (now (writes .entry)) (now (targets .entry)) from (count - from) (now (live .entry))) ⌝ }
+    requires { ⌜
+        (let C = marks.columns (now order) (now reads) (now sources) (now writes) (now targets) in
+        (s < settingCount) × uses.Markable from C (now status) (now readers) (now settled))
+        ⌝ }
+    ensures { λ _. ⌜
+        (let C =
+        marks.columns (now (order .entry)) (now (reads .entry)) (now (sources .entry)) (now (writes .entry)) (now (targets .entry)) in
+        (now (status .exit) ≡ marks.markedFrom C s from (getD (now (readers .entry)) s 0 - from) (now (status .entry)))
+        × uses.Settled from C (now (status .exit)) (now (readers .entry)) (now (settled .exit)))
+        ⌝ }
 {
-    let mut k = from;
-    while k < count {
-        let place = order[k] as usize;
-        mark_and_close(place, status, reads, sources, writes, targets, live);
-        k += 1;
-    }
-}
-
-// The view takes the new value of each setting that is live.
-pub fn follow_view(live: &[u8], values: &[i32], view: &mut [i32])
-    requires { ⌜ (length (now live) ≡ 1024) × (length (now values) ≡ 1024) × (length (now view) ≡ 1024) ⌝ }
-    ensures { λ _. ⌜ now (view .exit) ≡ followed (now (live .entry)) (now (values .entry)) (now (view .entry)) ⌝ }
-{
-    let mut s = 0;
-    while s < 1024 {
-        if live[s] != 0 {
-            view[s] = values[s];
+    let to = wide(readers[s as usize]);
+    if from < to {
+        let done = wide(settled[s as usize]);
+        if done <= from {
+            let end = mark_setting(s, from, to, order, status, reads, sources, writes, targets);
+            settled[s as usize] = end as u16;
         }
-        s += 1;
     }
 }
 
-// The 32 slots of a place: the first count settings of a list, then zeros.
-pub fn put_settings(place: usize, list: &[u16], count: usize, settings: &mut [u16])
-    requires { ⌜ (place < 4096) × (count ≤ 32) × (32 ≤ length (now list)) × (32 * place + 32 ≤ length (now settings)) ⌝ }
-    ensures { λ _. ⌜ now (settings .exit) ≡ replaced place (take count (now (list .entry))) (now (settings .entry)) ⌝ }
+// Later readers of each changed setting marked, as a turn at position k does: of each setting up to and including its next writer.
+pub fn mark_settings(
+    changed: &[u16],
+    k: usize,
+    order: &[u16],
+    status: &mut [u16],
+    reads: &[u16],
+    sources: &[u16],
+    writes: &[u16],
+    targets: &[u16],
+    readers: &[u16; 1024],
+    settled: &mut [u16; 1024],
+)
+    requires { ⌜
+        (let C = marks.columns (now order) (now reads) (now sources) (now writes) (now targets) in
+        (k < 4096) × marks.AllSettings (now changed) × uses.Markable (k + 1) C (now status) (now readers) (now settled))
+        ⌝ }
+    ensures { λ _. ⌜
+        (let C =
+        marks.columns (now (order .entry)) (now (reads .entry)) (now (sources .entry)) (now (writes .entry)) (now (targets .entry)) in
+        (now (status .exit) ≡ marks.markedSettings C (now (readers .entry)) (k + 1) (now (changed .entry)) (now (status .entry)))
+        × uses.Settled (k + 1) C (now (status .exit)) (now (readers .entry)) (now (settled .exit)))
+        ⌝ }
 {
-    let begin = 32 * place;
+    let from = k + 1;
+    let mut i = 0;
+    while i < changed.len() {
+        mark_unsettled(
+            changed[i],
+            from,
+            order,
+            status,
+            reads,
+            sources,
+            writes,
+            targets,
+            readers,
+            settled,
+        );
+        i += 1;
+    }
+}
+
+// The view takes the new value of each changed setting that no change above position k writes.
+pub fn follow_view(
+    changed: &[u16],
+    k: usize,
+    writers: &[u16; 1024],
+    after: &[i32; 1024],
+    view: &mut [i32],
+)
+    requires { ⌜ (k < 4096) × marks.AllSettings (now changed) × (length (now view) ≡ settingCount) ⌝ }
+    ensures { λ _. ⌜
+        now (view .exit)
+        ≡ marks.followed (now (writers .entry)) (k + 1) (now (after .entry)) (now (changed .entry)) (now (view .entry))
+        ⌝ }
+{
+    let from = k + 1;
+    let mut i = 0;
+    while i < changed.len() {
+        let s = changed[i] as usize;
+        if wide(writers[s]) <= from {
+            view[s] = after[s];
+        }
+        i += 1;
+    }
+}
+
+// A number stored for each setting of a list.
+fn note_list(settings: &[u16], number: u16, numbers: &mut [u16; 1024])
+    requires { ⌜ marks.AllSettings (now settings) ⌝ }
+    ensures { λ _. ⌜ now (numbers .exit) ≡ uses.noted (now (settings .entry)) number (now (numbers .entry)) ⌝ }
+{
     let mut j = 0;
-    while j < 32 {
-        if j < count {
-            settings[begin + j] = list[j];
-        } else {
-            settings[begin + j] = 0;
-        }
+    while j < settings.len() {
+        numbers[settings[j] as usize] = number;
         j += 1;
     }
 }
 
-// The same of a list of values.
-pub fn put_values(place: usize, list: &[i32], count: usize, values: &mut [i32])
-    requires { ⌜ (place < 4096) × (count ≤ 32) × (32 ≤ length (now list)) × (32 * place + 32 ≤ length (now values)) ⌝ }
-    ensures { λ _. ⌜ now (values .exit) ≡ replacedZ place (take count (now (list .entry))) (now (values .entry)) ⌝ }
+// A number stored for each setting of a place's list.
+fn note_at(place: usize, number: u16, counts: &[u16], settings: &[u16], numbers: &mut [u16; 1024])
+    requires { ⌜ marks.Listed place (now counts) (now settings)
+        × marks.AllSettings (marks.listAt (now counts) (now settings) place) ⌝ }
+    ensures { λ _. ⌜ now (numbers .exit)
+        ≡ uses.noted (marks.listAt (now (counts .entry)) (now (settings .entry)) place) number (now (numbers .entry)) ⌝ }
 {
     let begin = 32 * place;
-    let mut j = 0;
-    while j < 32 {
-        if j < count {
-            values[begin + j] = list[j];
-        } else {
-            values[begin + j] = 0;
+    let end = begin + counts[place] as usize;
+    note_list(&settings[begin..end], number, numbers);
+}
+
+// Of each setting one past the last Valid change that reads it, and one past the last change that writes it; 0 where there is none.
+pub fn last_uses(
+    count: usize,
+    order: &[u16],
+    status: &[u16],
+    reads: &[u16],
+    sources: &[u16],
+    writes: &[u16],
+    targets: &[u16],
+    readers: &mut [u16; 1024],
+    writers: &mut [u16; 1024],
+)
+    requires { ⌜ (count ≤ 4096) × (count ≤ length (now order))
+        × marks.Walkable (marks.columns (now order) (now reads) (now sources) (now writes) (now targets)) (length (now status))
+        × uses.Numbers (now readers) (λ s. 0) × uses.Numbers (now writers) (λ s. 0) ⌝ }
+    ensures { λ _. ⌜
+        (let C =
+        marks.columns (now (order .entry)) (now (reads .entry)) (now (sources .entry)) (now (writes .entry)) (now (targets .entry)) in
+        uses.Numbers (now (readers .exit)) (λ s. uses.lastBelow (uses.readsValid C (now (status .entry)) s) count)
+        × uses.Numbers (now (writers .exit)) (λ s. uses.lastBelow (marks.writesSetting C s) count))
+        ⌝ }
+{
+    let mut p = 0;
+    while p < count {
+        let place = order[p] as usize;
+        let next = p + 1;
+        if status[place] == 1 {
+            note_at(place, next as u16, reads, sources, readers);
         }
-        j += 1;
+        note_at(place, next as u16, writes, targets, writers);
+        p = next;
     }
 }

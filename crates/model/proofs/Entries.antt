@@ -48,7 +48,7 @@ length-entries k settings values h q =
 
 -- ---- distinct settings
 
-holds-named : (s : ℕ) (l : List Entry) → holds s (settingsOf l) ≡ named s l
+pub holds-named : (s : ℕ) (l : List Entry) → holds s (settingsOf l) ≡ named s l
 unfolding named
 holds-named s [] = refl
 holds-named s (e ∷ l) = rw (holds-named s l) (go (eqb (e .setting) s))

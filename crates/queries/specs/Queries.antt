@@ -14,7 +14,7 @@ use Rattle.model.specs.History.{isTimestamp}
 use Rattle.model.specs.Refusals.{firstOf, noTime, noSetting}
 use Rattle.model.specs.Calls.{unlessRead}
 use Rattle.search.specs.Searches.{rankOf, positionOf}
-use Rattle.execution.specs.Raw.{valuesBelow}
+use Rattle.values.specs.Values.{valuesBelow}
 
 -- current value
 abbrev pub currentAnswer : List ℤ → ℕ → Value

@@ -1,5 +1,4 @@
 // The calls that only read: current value, value as of a timestamp, standing of a timestamp, plain run.
-use execution::value_below;
 use fresh::fill_start;
 use fresh::run_held;
 use model::Answer;
@@ -11,6 +10,7 @@ use search::position;
 use search::rank;
 use tables::form::fault;
 use tables::held_count;
+use values::value_below;
 ghost use mathlib.Core.Path.{_≡_};
 ghost use lib.ListN.{length};
 ghost use Rattle.model.specs.Tables.{tables};

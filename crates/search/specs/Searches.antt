@@ -1,6 +1,6 @@
 -- What the searches give, as functions of the lent lists.
 use mathlib.Core.Path.{_≡_}
-use mathlib.Core.Bool.{Bool, cond, _&&_}
+use mathlib.Core.Bool.{Bool, cond, not, _&&_}
 use mathlib.Core.List.{List}
 use mathlib.Core.Option.{Option, none, some}
 use Prim.Native.Nat.{ℕ, zero, suc, _*_, _<_, _≤_}
@@ -9,7 +9,7 @@ use lib.IntN.{ℤ}
 use lib.ListN.{length, getD}
 use Rattle.machine.specs.Settings.{_orIf_, lookup}
 use Rattle.model.specs.Form.{timestampOf}
-use Rattle.model.specs.Tables.{listIn}
+use Rattle.model.specs.Tables.{Tables, heldCount, listIn}
 use Rattle.search.specs.declared.Found.{Found}
 use Rattle.search.specs.declared.Found.the-variants as found
 use Rattle.search.specs.declared.Written.{Written}
@@ -55,3 +55,21 @@ unfoldable pub previousWrite : List ℕ → List ℕ → List ℕ → List ℤ �
 previousWrite order writes targets written s zero = none
 previousWrite order writes targets written s (suc k) =
     lookup (listIn writes targets written (getD order k 0)) s orIf previousWrite order writes targets written s k
+
+-- ---- the change whose turn it is
+
+-- the first position from k on, of so many, that passes a test
+unfoldable pub firstFrom : (ℕ → Bool) → ℕ → ℕ → Option ℕ
+firstFrom test k zero = none
+firstFrom test k (suc m) = cond (test k) (some k) (firstFrom test (suc k) m)
+
+-- is the change at a position of the order list New or Invalid
+abbrev pub isWaiting : List ℕ → List ℕ → ℕ → Bool
+isWaiting order status k = not (eqb (getD status (getD order k 0) 0) 1)
+
+abbrev pub waitingOf : List ℕ → List ℕ → ℕ → Option ℕ
+waitingOf order status count = firstFrom (isWaiting order status) 0 count
+
+-- the position of the change of some tables whose turn it is
+abbrev pub waitingIn : Tables → Option ℕ
+waitingIn T = waitingOf (T .order) (T .status) (heldCount T)

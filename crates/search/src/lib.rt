@@ -1,12 +1,12 @@
-// Timestamps, and searches in the tables: a timestamp in the order list, and the write of a setting below a position of it.
+// Timestamps, and searches in the tables: a timestamp in the order list, the change whose turn it is, and the write of a setting below a position.
 ghost use mathlib.Core.Path.{_≡_};
 ghost use Prim.Native.Nat.{_+_, _*_, _<_, _≤_};
 ghost use lib.ListN.{length, drop};
 ghost use Rattle.machine.specs.Settings.{lookup, entries};
 ghost use Rattle.model.specs.History.{isTimestamp};
-ghost use Rattle.search.specs.Searches.{rankOf, stampedAt, positionOf, foundOf, writtenOf, previousWrite, PlacesWithin, WriteLists};
+ghost use Rattle.search.specs.Searches.{rankOf, stampedAt, positionOf, foundOf, writtenOf, previousWrite, waitingOf, PlacesWithin, WriteLists};
 
-// The position in the order list of a timestamp.
+// A position of the order list.
 pub enum Found {
     At(usize),
     Nothing,
@@ -63,6 +63,25 @@ pub fn position(t: u64, count: usize, order: &[u16], timestamps: &[u64]) -> Foun
         return Found::At(k);
     }
     Found::Nothing
+}
+
+// The position of the first change of the order list that is New or Invalid.
+pub fn waiting(count: usize, order: &[u16], status: &[u16]) -> Found
+    requires { ⌜ PlacesWithin count (now order) (length (now status)) ⌝ }
+    ensures { λ r. ⌜ r ≡ foundOf (waitingOf (now (order .entry)) (now (status .entry)) count) ⌝ }
+{
+    let mut k = 0;
+    let found = loop {
+        if count <= k {
+            break Found::Nothing;
+        }
+        let place = order[k] as usize;
+        if status[place] != 1 {
+            break Found::At(k);
+        }
+        k += 1;
+    };
+    found
 }
 
 // The value that the writes of a place give a setting: its last entry counts.

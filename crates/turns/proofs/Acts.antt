@@ -3,17 +3,16 @@ use mathlib.Core.Path.{_≡_, refl}
 use mathlib.Core.Bool.{Bool, true, false}
 use mathlib.Core.List.{List, [], _∷_}
 use mathlib.Core.Logic.{_⊎_, inl, inr}
-use Prim.Native.Nat.{ℕ}
 use lib.IntN.{ℤ}
 use Rattle.machine.specs.Settings.{Environment}
-use Rattle.machine.proofs.Cases.{impossible, both}
+use Rattle.machine.proofs.Cases.{impossible}
 use Rattle.model.specs.History.{New, Valid, Invalid, Lists, empty, runLists, Change, change, timestamp, program, status, withdrawn, lists, History, allHold}
 use Rattle.model.specs.Tables.{statusNumber, flagNumber}
 use Rattle.model.specs.Figure.{Event, ran, stood, cleared, Step, turned}
-use Rattle.model.specs.Walk.{close, liveAtEnd, settle, retry, walk}
+use Rattle.model.specs.Walk.{settle, retry, walk}
 use Rattle.acts.specs.declared.Act.{Act}
 use Rattle.acts.specs.declared.Act.the-variants as act
-use Rattle.acts.specs.Raw.{actOf}
+use Rattle.acts.specs.Acts.{actOf}
 
 -- new lists for a change
 abbrev pub settleChange : Environment → List ℤ → Change → Lists → History → Event → Step
@@ -41,8 +40,3 @@ walk-acts env view (change t p Invalid false l) h w = go (allHold (l .reads) env
     go false = refl
 walk-acts env view (change t p Valid w l) h (inl e) = impossible (cc)
 walk-acts env view (change t p Valid w l) h (inr e) = impossible (cc)
-
--- what is live at the end was live at first
-pub still-live : (live : ℕ → Bool) (h : History) (x : ℕ) → liveAtEnd live h x ≡ true → live x ≡ true
-still-live live [] x q = q
-still-live live (c ∷ h) x q = both (live x) (still-live (close live (lists c)) h x q) .0

@@ -1,1 +1,1 @@
-pub mod Raw
+pub mod Turns

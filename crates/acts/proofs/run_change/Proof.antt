@@ -6,14 +6,14 @@ use Rattle.acts.proofs.run_change.Tie as tie
 
 run-at-requires : tie.Need-run-at-requires
 run-at-requires c κs =
-    let r = c .before .before .before .before .before .before .before .before .before .before .before .before .pre in
+    let r = c .before .before .before .before .before .before .before .before .before .before .before .before .before .before .before .pre in
     let p = program-runs (r .0) in
-    (p .0, p .1, r .0 .placed, r .0 .listed, r .1)
+    (p .0, p .1, r .1, r .2)
 
 returns : tie.Need-returns
 returns c =
-    let r = c .before .before .before .before .before .before .before .before .before .before .before .before .before .pre in
-    run-of _ (program-part (r .0)) (c .run-at .ensures)
+    let r = c .before .before .before .before .before .before .before .before .before .before .before .before .before .before .before .before .pre in
+    (run-of _ (program-part (r .0)) (c .run-at .ensures .0), c .run-at .ensures .1)
 
 pub run-change-spec : {M : Type 1} → statement M
 run-change-spec =

@@ -1,0 +1,95 @@
+-- What the code of a turn relies on at a position of tables in form.
+use mathlib.Core.Path.{_≡_, sym, _∙_}
+use mathlib.Core.List.{List}
+use Prim.Native.Nat.{ℕ, _+_, _*_, _<_, _≤_}
+use native.Mathlib.Omega.{arith}
+use lib.IntN.{ℤ}
+use lib.ListN.{length, getD}
+use Rattle.model.specs.Tables.{Tables, heldCount, slots}
+use Rattle.model.specs.Form.{Formed}
+use Rattle.model.proofs.Form.{facts}
+use Rattle.search.proofs.Model.{placed-writes, listed}
+use Rattle.execution.proofs.Model.{program-formed}
+use Rattle.values.specs.Values.{valuesBelow, OfSettings, Known, Lookable}
+use Rattle.values.proofs.Parts.{tested-settings}
+use Rattle.acts.specs.Acts.{Positioned, Decidable, Runnable}
+use Rattle.storing.specs.Stored.{NewLists, ListStorable, ListsStorable}
+use Rattle.turns.proofs.Unused.{settings-unused, values-unused}
+
+-- new lists in their 32 slots
+pub record Fitting (l : NewLists) : Type 0 where
+  pub reads : l .reads ≤ 32
+  pub writes : l .writes ≤ 32
+  pub sources : length (l .sources) ≡ 32
+  pub seen : length (l .seen) ≡ 32
+  pub targets : length (l .targets) ≡ 32
+  pub written : length (l .written) ≡ 32
+
+module _ {n : ℕ} {T : Tables} (g : Formed n T) (k : ℕ) (h : k < heldCount T) where
+  abbrev place : ℕ
+  place = getD (T .order) k 0
+
+  place-held : place < heldCount T
+  place-held = facts g .form .places k h
+
+  at-place : {places : ℕ} → places ≡ n → Positioned k (T .order) places
+  at-place e =
+      record {
+        ordered = omega (arith, h, facts g .form .small, facts g .sizes .order);
+        small = omega (arith, e, facts g .sizes .capacity);
+        place = omega (arith, e, place-held, facts g .form .small);
+      }
+
+  pub decidable : Decidable k (T .order) (T .status) (T .withdrawn) (T .reads) (T .sources) (T .seen) (length (T .writes))
+  decidable =
+      let l = facts g .sizes in
+      record {
+        at = at-place (l .writes);
+        status-slots = l .status ∙ sym (l .writes);
+        flag-slots = l .withdrawn ∙ sym (l .writes);
+        read-counts = l .reads ∙ sym (l .writes);
+        source-slots = omega (arith, l .sources, l .writes);
+        seen-slots = omega (arith, l .seen, l .writes);
+        short = facts g .form .reads place place-held .short;
+        settings = tested-settings _ (facts g .form .reads place place-held .distinct);
+      }
+
+  pub runnable : Runnable k (T .order) (T .lengths) (T .programs)
+  runnable =
+      record {
+        at = at-place (facts g .sizes .lengths);
+        blocks = omega (arith, facts g .sizes .programs, facts g .sizes .lengths);
+        short = facts g .form .programs place place-held .short;
+        formed = program-formed g k h;
+      }
+
+  pub write-settings : OfSettings (slots 32 place (getD (T .writes) place 0) (T .targets))
+  write-settings = tested-settings _ (facts g .form .writes place place-held .distinct)
+
+  pub lookable : {known : List ℕ} {before after : List ℤ} → Known (valuesBelow (T .order) (T .writes) (T .targets) (T .written) k) known before after → Lookable k (T .order) (T .writes) (T .targets) (T .written) known before after
+  lookable q = record { placed = placed-writes g k (omega (arith, h)); listed = listed g; right = q }
+
+  pub storable : (l : NewLists) → Fitting l → ListsStorable place l (T .reads) (T .writes) (T .sources) (T .seen) (T .targets) (T .written)
+  storable l f =
+      let z = facts g .sizes in
+      let p = at-place (z .writes) in
+      let source-room : 32 * place + 32 ≤ length (T .sources) = omega (arith, place-held, facts g .form .small, z .sources) in
+      let seen-room : 32 * place + 32 ≤ length (T .seen) = omega (arith, place-held, facts g .form .small, z .seen) in
+      let target-room : 32 * place + 32 ≤ length (T .targets) = omega (arith, place-held, facts g .form .small, z .targets) in
+      let value-room : 32 * place + 32 ≤ length (T .written) = omega (arith, place-held, facts g .form .small, z .written) in
+      let read = facts g .form .reads place place-held in
+      let wrote = facts g .form .writes place place-held in
+      record {
+        read =
+            record {
+              counted = omega (arith, place-held, facts g .form .small, z .reads);
+              of-settings = record { small = omega (arith, p .place, p .small); short = f .reads; old-short = read .short; long = omega (arith, f .sources); room = source-room; unused = settings-unused read source-room };
+              of-values = record { small = omega (arith, p .place, p .small); short = f .reads; old-short = read .short; long = omega (arith, f .seen); room = seen-room; unused = values-unused read seen-room };
+            };
+        wrote =
+            record {
+              counted = p .place;
+              of-settings = record { small = omega (arith, p .place, p .small); short = f .writes; old-short = wrote .short; long = omega (arith, f .targets); room = target-room; unused = settings-unused wrote target-room };
+              of-values = record { small = omega (arith, p .place, p .small); short = f .writes; old-short = wrote .short; long = omega (arith, f .written); room = value-room; unused = values-unused wrote value-room };
+            };
+      }
