@@ -65,10 +65,11 @@ module _ {oldTargets : List ℕ} {oldWritten : List ℤ} {newTargets : List ℕ}
       AllKnown known newTargets × Looked env known₁ known before₂ after₂ →
       before ≡ carry old before₂ →
       after' ≡ carry new after₂ →
+      length list₀ ≡ 64 →
       Collected oldTargets before after' 0 list₀ count list₁ →
       Collected newTargets before after' count list₁ total list →
       Altered old new env earlier known before after' total list
-  altered {env} {known = known} {before = before} {after' = after'} first second carried carried' f g =
+  altered {env} {known = known} {before = before} {after' = after'} first second carried carried' m f g =
       let olds = whole-named oldTargets oldWritten (b .old-same) in
       let news = whole-named newTargets newWritten (b .new-same) in
       let r : Replacing (writing old) (writing new) env known before after' = replacing (writing old) (writing new) (second .1 .right) (all-kept (first .0) (second .1)) olds (second .0) news carried carried' in
@@ -79,7 +80,7 @@ module _ {oldTargets : List ℕ} {oldWritten : List ℤ} {newTargets : List ℕ}
         after-is = r .after-is;
         old-known = r .old-known;
         new-known = r .new-known;
-        bound = omega (arith, f .bound, g .bound, b .old-short, b .new-short);
+        room = omega (arith, f .bound, g .bound, b .old-short, b .new-short, f .sized, g .sized);
         settings = collected-settings f g (b .old-settings) (b .new-settings);
         differing = collected-differs f g r olds news;
         renewed = collected-new f g r olds news;

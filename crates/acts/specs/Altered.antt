@@ -39,7 +39,7 @@ pub record Altered (old new : List Entry) (env : Environment) (earlier known : L
   pub after-is : (s : ℕ) → s < settingCount → IsKnown known s → valueIn after' s ≡ after new env s
   pub old-known : (s : ℕ) → named s old ≡ true → IsKnown known s
   pub new-known : (s : ℕ) → named s new ≡ true → IsKnown known s
-  pub bound : count ≤ 64
+  pub room : count ≤ length list
   pub settings : OfSettings (take count list)
   pub differing : (x : ℕ) → x < settingCount → holds x (take count list) ≡ not (eqZ (after old env x) (after new env x))
   pub renewed : (x : ℕ) → x < settingCount → holds x (take count list) ≡ true → valueIn after' x ≡ after new env x

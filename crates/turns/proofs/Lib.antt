@@ -3,3 +3,4 @@ pub mod Replaced
 pub mod Unused
 pub mod Relied
 pub mod Model
+pub mod Outcomes

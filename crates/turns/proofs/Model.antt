@@ -1,17 +1,20 @@
 -- The turn of the change at a position of tables in form, by what is done with it: the tables that it leaves, and what is known for the next position.
 use mathlib.Core.Path.{_≡_, refl, sym, ap, ap₂, subst, _∙_}
-use mathlib.Core.Bool.{Bool, true, cond}
+use mathlib.Core.Bool.{Bool, true, false, cond, not}
 use mathlib.Core.List.{List, [], _∷_, _++_, map}
 use mathlib.Core.Option.{some}
 use Prim.Native.Nat.{ℕ, zero, suc, _+_, _<_, _≤_}
+use native.Mathlib.Decide.{decLt}
 use native.Mathlib.Numerals.{add-one}
 use native.Mathlib.Omega.{arith}
+use lib.Dec.{eqb}
 use lib.IntN.{ℤ}
-use lib.ListN.{length, getD, set, take, drop, length-append}
-use lib.Seq.{length-take-le, drop-at}
+use lib.ListN.{length, getD, set, take, drop, length-append, List·getD-append}
+use lib.Seq.{length-take-le, drop-at, getD-take, getD-append-add}
 use Rattle.machine.specs.Settings.{settingCount, Environment, Entry, valueIn, entries, after}
+use Rattle.model.specs.declared.Turned.{Turned}
 use Rattle.model.specs.declared.Turned.the-variants as turn-answer
-use Rattle.model.specs.History.{start, Status, Valid, Lists, Change, change, timestamp, program, status, withdrawn, lists, History, allSettings, allHold}
+use Rattle.model.specs.History.{start, Status, Valid, Lists, Change, change, timestamp, program, status, withdrawn, lists, History, afterAll, allSettings, allHold}
 use Rattle.model.specs.Figure.{Event, turned}
 use Rattle.model.specs.Walk.{differs, markLive, liveAtEnd}
 use Rattle.model.specs.Cabinet.{Cabinet, blank, historyOf, withHistory}
@@ -20,21 +23,25 @@ use Rattle.model.specs.Calls.{reply, eventAnswer, stepReply, roundOf}
 use Rattle.model.specs.Form.{holds, Formed}
 use Rattle.model.specs.Sound.{Sound}
 use Rattle.model.proofs.Cabinet.{length-putAt, withHistory-history, history-again}
+use Rattle.model.proofs.Encode.{lengths-encode}
 use Rattle.model.proofs.Figure.{round-walk}
 use Rattle.model.proofs.Form.{facts, encode-formed}
-use Rattle.model.proofs.Keeps.{keeps-length, round-sound}
-use Rattle.model.proofs.Tables.{timestamp-at, withdrawn-at}
+use Rattle.model.proofs.Keeps.{StepKeeps, keeps-length, round-keeps, round-sound}
+use Rattle.model.proofs.Tables.{timestamp-at, withdrawn-at, decode-encode}
+use Rattle.search.specs.Searches.{isWaiting, waitingIn}
+use Rattle.search.proofs.First.{first-some}
 use Rattle.search.proofs.Model.{historyIn, held-changes, history-length, by-place}
-use Rattle.execution.specs.Raw.{waitingIn}
-use Rattle.execution.proofs.Passes.{passes, passes-turned}
-use Rattle.execution.proofs.Model.{uptoIn, status-of, waiting-held, waiting-some, walk-some, values-below, reads-here}
-use Rattle.turns.specs.Raw as turns
-use Rattle.values.specs.Values.{valuesBelow}
+use Rattle.search.proofs.Passes.{passes, passes-turned}
+use Rattle.search.proofs.Waits.{status-of, waiting-held, waiting-some, walk-some}
+use Rattle.values.specs.Values.{valuesBelow, Known}
+use Rattle.values.proofs.Model.{uptoIn, values-below, reads-here}
+use Rattle.marking.specs.Uses.{Uses}
 use Rattle.marking.proofs.Restated.{withStatus, unstated, Restated, restated}
 use Rattle.marking.proofs.Cabinet.{marked-keeps, marked-cabinet-sound}
 use Rattle.acts.specs.declared.Act.{Act}
 use Rattle.acts.specs.declared.Act.the-variants as act
 use Rattle.acts.specs.Acts.{actOf}
+use Rattle.turns.specs.Turns as turns
 use Rattle.turns.proofs.Acts.{stepBy, actBy, walk-acts}
 use Rattle.turns.proofs.Replaced.{replacedTables, Replaces, replaced-tables}
 
@@ -56,7 +63,12 @@ get-first k [] b l = absurd (omega arith)
 get-first zero (c ∷ h) b l = refl
 get-first (suc k) (c ∷ h) b l = get-first k h b (omega arith)
 
-view-decode : (T : Tables) → decode T .view ≡ T .view
+-- the settings after the first changes and one more
+after-first : (a : History) (new : Change) (rest : History) (env : Environment) → afterAll (take (suc (length a)) (a ++ new ∷ rest)) env ≡ after (lists new .writes) (afterAll a env)
+after-first [] new rest env = refl
+after-first (c ∷ a) new rest env = after-first a new rest (after (lists c .writes) env)
+
+pub view-decode : (T : Tables) → decode T .view ≡ T .view
 unfolding decode
 view-decode T = refl
 
@@ -121,10 +133,10 @@ module _ {T : Tables} (g : Formed (length (T .order)) T) (k : ℕ) (w : waitingI
   abbrev place : ℕ
   place = getD (T .order) k 0
 
-  abbrev here : Change
+  abbrev pub here : Change
   here = getD (historyIn T) k blank
 
-  abbrev later : History
+  abbrev pub later : History
   later = drop (suc k) (historyIn T)
 
   pub held : k < heldCount T
@@ -140,13 +152,13 @@ module _ {T : Tables} (g : Formed (length (T .order)) T) (k : ℕ) (w : waitingI
       ∙ withdrawn-at n (decode T) place
       ∙ ap (λ (c : Change). flagNumber (withdrawn c)) (by-place g k held)
 
-  timestamp-here : getD (T .timestamps) place 0 ≡ timestamp here
+  pub timestamp-here : getD (T .timestamps) place 0 ≡ timestamp here
   timestamp-here =
       ap (λ (U : Tables). getD (U .timestamps) place 0) (sym (facts g .laid))
       ∙ timestamp-at n (decode T) place
       ∙ ap timestamp (by-place g k held)
 
-  act-is : actIn ≡ actBy (uptoIn T k) here
+  pub act-is : actIn ≡ actBy (uptoIn T k) here
   act-is =
       let flags = flag-here in
       let statuses = status-of g k held in
@@ -155,7 +167,7 @@ module _ {T : Tables} (g : Formed (length (T .order)) T) (k : ℕ) (w : waitingI
       λ j. actOf (flags j) (statuses j) (allHold (reads j) (upto j))
 
   -- the round, where the change does this
-  turns-by : {a : Act} {h : History} {view : List ℤ} {e : Event} → a ≡ actIn → stepBy a (uptoIn T k) (decode T .view) here later ≡ turned h view e → roundOf (decode T) ≡ turned (take k (historyIn T) ++ h) view e
+  pub turns-by : {a : Act} {h : History} {view : List ℤ} {e : Event} → a ≡ actIn → stepBy a (uptoIn T k) (decode T .view) here later ≡ turned h view e → roundOf (decode T) ≡ turned (take k (historyIn T) ++ h) view e
   turns-by {h = h} {view} {e} d q =
       round-walk start (historyIn T) (decode T .view) 0 (facts g .sound .rising)
       ∙ walk-some g k w start (decode T .view)
@@ -165,7 +177,77 @@ module _ {T : Tables} (g : Formed (length (T .order)) T) (k : ℕ) (w : waitingI
       ∙ q)
       ∙ passes-turned (take k (historyIn T)) h view e
 
-  -- the tables after it
-  turn-leaves : {h : History} {view : List ℤ} {e : Event} → roundOf (decode T) ≡ turned (take k (historyIn T) ++ h) view e → {U : Tables} → U ≡ encode n (withHistory (decode T) (take k (historyIn T) ++ h) view) → reply (eventAnswer e) U ≡ turns.turned T
-  unfolding turns.turned
-  turn-leaves {e = e} r u = ap (reply (eventAnswer e)) u ∙ sym (ap (stepReply n T (decode T)) r)
+  -- the first change that waits is the one at the position
+  waits-first : (j : ℕ) → j < k → isWaiting (T .order) (T .status) j ≡ false
+  waits-first = first-some (isWaiting (T .order) (T .status)) (heldCount T) k w .2
+
+  -- ---- the tables after a turn that leaves these changes from the position on, and this view
+
+  module _ (new : Change) (rest : History) (view : List ℤ) {e : Event} (r : roundOf (decode T) ≡ turned (take k (historyIn T) ++ new ∷ rest) view e) {U : Tables} (u : U ≡ encode n (withHistory (decode T) (take k (historyIn T) ++ new ∷ rest) view)) where
+    abbrev next : Cabinet
+    next = withHistory (decode T) (take k (historyIn T) ++ new ∷ rest) view
+
+    pub next-sound : Sound n next
+    next-sound = round-sound (facts g .sound) r
+
+    pub turn-leaves : reply (eventAnswer e) U ≡ turns.turned T
+    unfolding turns.turned
+    turn-leaves = ap (reply (eventAnswer e)) u ∙ sym (ap (stepReply n T (decode T)) r)
+
+    next-capacity : length (U .order) ≡ n
+    next-capacity = ap (λ (W : Tables). length (W .order)) u ∙ lengths-encode n next next-sound .order
+
+    formed-next : Formed (length (U .order)) U
+    formed-next = subst (λ (m : ℕ). Formed m U) (sym next-capacity) (subst (Formed n) (sym u) (encode-formed next-sound))
+
+    next-length : length (take k (historyIn T) ++ new ∷ rest) ≡ length (historyIn T)
+    next-length = keeps-length (subst (StepKeeps (historyIn T) (decode T .view)) r (round-keeps start (historyIn T) (decode T .view)))
+
+    history-next : historyIn U ≡ take k (historyIn T) ++ new ∷ rest
+    history-next =
+        ap historyIn u
+        ∙ ap historyOf (decode-encode n next next-sound)
+        ∙ withHistory-history (decode T) (take k (historyIn T) ++ new ∷ rest) view (facts g .sound .placed) next-length
+
+    held-next : heldCount U ≡ heldCount T
+    held-next = sym (history-length formed-next) ∙ ap length history-next ∙ next-length ∙ history-length g
+
+    below-length : length (take k (historyIn T)) ≡ k
+    below-length = length-take-le k (historyIn T) (omega (arith, held, history-length g))
+
+    -- the changes below the position are as they were, and the one at it is Valid
+    passed-next : status new ≡ Valid → (j : ℕ) → j < suc k → isWaiting (U .order) (U .status) j ≡ false
+    passed-next v j h = ap (λ (m : ℕ). not (eqb m 1)) (status-of formed-next j (omega (arith, h, held, held-next)) ∙ ap (λ (x : History). statusNumber (status (getD x j blank))) history-next) ∙ go (decLt j k)
+      where
+        go : Dec (j < k) → not (eqb (statusNumber (status (getD (take k (historyIn T) ++ new ∷ rest) j blank))) 1) ≡ false
+        go (yes l) =
+            ap (λ (c : Change). not (eqb (statusNumber (status c)) 1)) (List·getD-append (take k (historyIn T)) (new ∷ rest) blank j (omega (arith, l, below-length)) ∙ getD-take k (historyIn T) j blank l)
+            ∙ ap (λ (m : ℕ). not (eqb m 1)) (sym (status-of g j (omega (arith, l, held))))
+            ∙ waits-first j l
+        go (no l) =
+            let i : j ≡ length (take k (historyIn T)) + 0 = omega (arith, below-length) in
+            ap (λ (c : Change). not (eqb (statusNumber (status c)) 1)) (ap (λ (m : ℕ). getD (take k (historyIn T) ++ new ∷ rest) m blank) i ∙ getD-append-add (take k (historyIn T)) (new ∷ rest) 0 blank)
+            ∙ ap (λ (q : Status). not (eqb (statusNumber q) 1)) v
+
+    -- the values as of the next position are those after its writes
+    values-next-turn : valuesBelow (U .order) (U .writes) (U .targets) (U .written) (suc k) ≡ after (lists new .writes) (valuesBelow (T .order) (T .writes) (T .targets) (T .written) k)
+    values-next-turn =
+        values-below formed-next (suc k) (omega (arith, held, held-next))
+        ∙ ap (λ (x : History). afterAll (take (suc k) x) start) history-next
+        ∙ ap (λ (m : ℕ). afterAll (take (suc m) (take k (historyIn T) ++ new ∷ rest)) start) (sym below-length)
+        ∙ after-first (take k (historyIn T)) new rest start
+        ∙ ap (after (lists new .writes)) (sym (values-below g k (omega (arith, held))))
+
+    pub going-next :
+        {known : List ℕ} {before after' : List ℤ} {readers writers settled : List ℕ} →
+        status new ≡ Valid →
+        Known (after (lists new .writes) (valuesBelow (T .order) (T .writes) (T .targets) (T .written) k)) known before after' →
+        Uses (k + 1 + 1) (encode n next) readers writers settled →
+        turns.Going (k + 1) U known before after' readers writers settled
+    going-next {known} {before} {after'} {readers} {writers} {settled} v q p =
+        record {
+          formed = formed-next;
+          passed = λ j h. passed-next v j (omega arith);
+          values = subst (λ (env : Environment). Known env known before after') (sym (ap (valuesBelow (U .order) (U .writes) (U .targets) (U .written)) (add-one k) ∙ values-next-turn)) q;
+          uses = subst (λ (W : Tables). Uses (k + 1 + 1) W readers writers settled) (sym u) p;
+        }

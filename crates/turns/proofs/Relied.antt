@@ -9,8 +9,8 @@ use Rattle.model.specs.Tables.{Tables, heldCount, slots}
 use Rattle.model.specs.Form.{Formed}
 use Rattle.model.proofs.Form.{facts}
 use Rattle.search.proofs.Model.{placed-writes, listed}
-use Rattle.execution.proofs.Model.{program-formed}
 use Rattle.values.specs.Values.{valuesBelow, OfSettings, Known, Lookable}
+use Rattle.values.proofs.Model.{program-formed}
 use Rattle.values.proofs.Parts.{tested-settings}
 use Rattle.acts.specs.Acts.{Positioned, Decidable, Runnable}
 use Rattle.storing.specs.Stored.{NewLists, ListStorable, ListsStorable}

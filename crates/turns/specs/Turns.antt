@@ -1,24 +1,35 @@
--- Turns up the order list: what is known where those below a position are done, and the answer by what is done with a change.
+-- One turn on the lent tables, and what is known while turns go up the order list.
+use mathlib.Core.Path.{_≡_}
 use mathlib.Core.Bool.{Bool, true, false}
 use mathlib.Core.List.{List}
-use Prim.Native.Nat.{ℕ, _+_}
+use mathlib.Core.Logic.{_⊎_}
+use mathlib.Core.Option.{some}
+use Prim.Native.Nat.{ℕ, _+_, _<_}
 use lib.IntN.{ℤ}
+use lib.ListN.{length}
 use Rattle.model.specs.declared.Turned.{Turned}
 use Rattle.model.specs.declared.Turned.the-variants as turn-answer
-use Rattle.model.specs.Tables.{Tables}
-use Rattle.values.specs.Values.{valuesBelow, IsKnown, Known}
+use Rattle.model.specs.Tables.{Tables, decode}
+use Rattle.model.specs.Form.{Formed}
+use Rattle.model.specs.Calls.{Reply, reply, stepReply, roundOf}
+use Rattle.search.specs.Searches.{isWaiting, waitingIn}
+use Rattle.values.specs.Values.{valuesBelow, Known}
 use Rattle.marking.specs.Uses.{Uses}
 use Rattle.acts.specs.declared.Act.{Act}
 use Rattle.acts.specs.declared.Act.the-variants as act
 
--- the values as of a position that are known, and how far each setting matters above it
+-- the answer and the tables after one turn (Figure 1); the capacity is the length of the order list
+unfoldable pub turned : Tables → Reply Turned
+turned T = stepReply (length (T .order)) T (decode T) (roundOf (decode T))
+
+-- ---- up the order list
+
+-- turns have gone up to a position: every change below it is Valid, the known values are those as of it, and it is noted how far each setting matters above it
 pub record Going (k : ℕ) (T : Tables) (known : List ℕ) (before after : List ℤ) (readers writers settled : List ℕ) : Type 0 where
+  pub formed : Formed (length (T .order)) T
+  pub passed : (j : ℕ) → j < k → isWaiting (T .order) (T .status) j ≡ false
   pub values : Known (valuesBelow (T .order) (T .writes) (T .targets) (T .written) k) known before after
   pub uses : Uses (k + 1) T readers writers settled
-
--- what was known is known still
-pub record StillKnown (earlier known : List ℕ) : Type 0 where
-  pub each : (s : ℕ) → IsKnown earlier s → IsKnown known s
 
 -- ---- by what is done with a change
 

@@ -54,7 +54,7 @@ module _ {n : ℕ} {T : Tables} (g : Formed n T) where
     place-held : place < length (decode T .changes)
     place-held = omega (arith, facts g .form .places k h, held-changes g)
 
-    here-sound : ChangeSound here
+    pub here-sound : ChangeSound here
     here-sound = rw (by-place g k h) at (sound-at (decode T .changes) place (facts g .sound .each) place-held)
 
     -- for `run_at`: its program

@@ -1,4 +1,5 @@
 -- `acts::alter_writes` meets its contract: looked up, carried, collected. Assumes nothing.
+use mathlib.Core.Path.{_∙_}
 use native.Mathlib.Omega.{arith}
 use Rattle.acts.proofs.Alters.{altered}
 use Rattle.acts.proofs.alter_writes.Statement.{statement}
@@ -26,12 +27,12 @@ collect-changed-requires-2 : tie.Need-collect-changed-requires-2
 collect-changed-requires-2 c κs =
     let f = c .before .before .before in
     let p = entry (c .before .before .before .before .before .before .before .before .before .before .before .before .before .before .before) .pre in
-    (p .0 .new-settings, omega (arith, f .collect-changed .ensures .bound, p .0 .old-short, p .0 .new-short), ?)
+    (p .0 .new-settings, omega (arith, f .collect-changed .ensures .bound, p .0 .old-short, p .0 .new-short), f .collect-changed .ensures .sized ∙ p .1)
 
 returns : tie.Need-returns
 returns c =
     let first = c .before .before .before .before .before .before .before .before .before .before .before .before .before .before .before .before in
-    altered (entry first .pre .0) (first .know-list .ensures) (c .before .before .before .before .before .before .before .before .before .before .before .before .know-list2 .ensures) (c .before .before .before .before .before .before .before .before .before .before .carry-list .ensures) (c .before .before .before .before .before .before .before .before .carry-list2 .ensures) (c .before .before .before .before .collect-changed .ensures) (c .collect-changed2 .ensures)
+    altered (entry first .pre .0) (first .know-list .ensures) (c .before .before .before .before .before .before .before .before .before .before .before .before .know-list2 .ensures) (c .before .before .before .before .before .before .before .before .before .before .carry-list .ensures) (c .before .before .before .before .before .before .before .before .carry-list2 .ensures) (entry first .pre .1) (c .before .before .before .before .collect-changed .ensures) (c .collect-changed2 .ensures)
 
 pub alter-writes-spec : {M : Type 1} → statement M
 alter-writes-spec =
