@@ -21,15 +21,15 @@ use Rattle.values.proofs.Values.{same-bits, other-bits}
 pub record Collecting (settings : List ℕ) (before after : List ℤ) (count : ℕ) (earlier : List ℕ) (total : ℕ) (changed : List ℕ) (i : ℕ) : Type 0 where
   pub within : i ≤ length settings
   pub bound : total ≤ count + i
-  pub size : length changed ≡ 64
+  pub size : length changed ≡ length earlier
   pub rest : take total changed ++ changedIn before after (drop i settings) ≡ take count earlier ++ changedIn before after settings
 
 module _ {settings : List ℕ} {before after : List ℤ} {count : ℕ} {earlier : List ℕ} where
-  pub collecting-none : length earlier ≡ 64 → Collecting settings before after count earlier count earlier 0
-  collecting-none h = record { within = omega arith; bound = omega arith; size = h; rest = refl }
+  pub collecting-none : Collecting settings before after count earlier count earlier 0
+  collecting-none = record { within = omega arith; bound = omega arith; size = refl; rest = refl }
 
   module _ {total : ℕ} {changed : List ℕ} {i : ℕ} (h : Collecting settings before after count earlier total changed i) where
-    module _ (l : i < length settings) (room : count + length settings ≤ 64) where
+    module _ (l : i < length settings) (room : count + length settings ≤ length earlier) where
       abbrev s : ℕ
       s = getD settings i 0
 
@@ -72,6 +72,7 @@ module _ {settings : List ℕ} {before after : List ℤ} {count : ℕ} {earlier 
     collecting-all l =
         record {
           bound = omega (arith, h .bound, h .within);
+          sized = h .size;
           these = sym (ap (λ k. take total changed ++ changedIn before after k) (drop-of-length-le settings {i = i} l) ∙ append-nil (take total changed)) ∙ h .rest;
         }
 

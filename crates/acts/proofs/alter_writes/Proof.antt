@@ -1,4 +1,5 @@
 -- `acts::alter_writes` meets its contract: looked up, carried, collected. Assumes nothing.
+use mathlib.Core.Path.{_∙_}
 use native.Mathlib.Omega.{arith}
 use Rattle.acts.proofs.Alters.{altered}
 use Rattle.acts.proofs.alter_writes.Statement.{statement}
@@ -26,7 +27,7 @@ collect-changed-requires-2 : tie.Need-collect-changed-requires-2
 collect-changed-requires-2 c κs =
     let f = c .before .before .before in
     let p = entry (c .before .before .before .before .before .before .before .before .before .before .before .before .before .before .before) .pre in
-    (p .0 .new-settings, omega (arith, f .collect-changed .ensures .bound, p .0 .old-short, p .0 .new-short), ?)
+    (p .0 .new-settings, omega (arith, f .collect-changed .ensures .bound, p .0 .old-short, p .0 .new-short), f .collect-changed .ensures .sized ∙ p .1)
 
 returns : tie.Need-returns
 returns c =

@@ -1,7 +1,6 @@
 -- `acts::decide` meets its contract: an act for each return. Assumes nothing.
 use mathlib.Core.Path.{_≡_, sym, ap, _∙_}
 use mathlib.Core.List.{List}
-use native.Mathlib.Omega.{arith}
 use borrow.Author.Needs.{needs}
 use lib.ListN.{getD}
 use Rattle.machine.specs.Settings.{Environment, Entry}
@@ -10,6 +9,7 @@ use Rattle.model.specs.Tables.{listIn}
 use Rattle.values.specs.Values.{valuesBelow}
 use Rattle.values.proofs.Known.{looked-none}
 use Rattle.values.proofs.Parts.{part-settings, same-part, part-entries}
+use Rattle.acts.proofs.Parts.{source-room, seen-room}
 use Rattle.acts.proofs.Steps.{clears, runs-new, stands, runs-again}
 use Rattle.acts.proofs.decide.Statement.{statement}
 use Rattle.acts.proofs.decide.Tie as tie
@@ -28,7 +28,7 @@ seen-hold-requires c κs =
     let s = entry (c .before .before .before .before .before .before) in
     let d = s .pre .0 in
     let a = s .args in
-    (same-part (a .reads .now) (a .sources .now) (a .seen .now) _ (omega (arith, d .at, d .short, d .source-slots)) (omega (arith, d .at, d .short, d .seen-slots)), part-settings _ _ (a .sources .now) (d .settings), s .pre .1)
+    (same-part (a .reads .now) (a .sources .now) (a .seen .now) _ (source-room d) (seen-room d), part-settings (getD (a .order .now) (a .k) 0) _ (a .sources .now) (d .settings), s .pre .1)
 
 -- the values as of the position
 abbrev upto : tie.Start → Environment
@@ -42,7 +42,7 @@ seen-held c =
     let a = s .args in
     c .seen-hold .ensures .0
     ∙ ap (λ (l : List Entry). allHold l (upto s))
-    (part-entries (a .reads .now) (a .sources .now) (a .seen .now) _ (omega (arith, d .at, d .short, d .source-slots)) (omega (arith, d .at, d .short, d .seen-slots)))
+    (part-entries (a .reads .now) (a .sources .now) (a .seen .now) _ (source-room d) (seen-room d))
 
 returns-3 : tie.Need-returns-3
 returns-3 c =

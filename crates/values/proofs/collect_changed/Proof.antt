@@ -24,10 +24,9 @@ loop-again : tie.Need-loop-again Inv-loop μ-loop
 loop-again c =
     let v = c .before in
     let l = v .before .before .before .before in
-    let room = l .before .pre .1 in
     ⊎-elim
-    (λ w. rw (w .1) (collecting-one (l .loop .inv) (omega arith) room (w .0 .taken)))
-    (λ w. rw (w .1) (collecting-same (l .loop .inv) (omega arith) room (sfits-of (v .before .if12 .given)) (sfits-of (v .if13 .given)) (w .0 .left)))
+    (λ w. rw (w .1) (collecting-one (l .loop .inv) (omega arith) (omega arith) (w .0 .taken)))
+    (λ w. rw (w .1) (collecting-same (l .loop .inv) (omega arith) (omega arith) (sfits-of (v .before .if12 .given)) (sfits-of (v .if13 .given)) (w .0 .left)))
     (c .if1 .came)
 
 pub collect-changed-spec : {M : Type 1} → statement M
@@ -36,7 +35,7 @@ collect-changed-spec =
     (tie.spec
     Inv-loop
     μ-loop
-    (λ c. collecting-none (c .pre .2))
+    (λ c. collecting-none)
     (λ c. search needs)
     (λ c. search needs)
     (λ c. omega (arith, within (c .before)))
