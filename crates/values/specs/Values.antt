@@ -68,7 +68,7 @@ changedIn before after [] = []
 changedIn before after (s ∷ settings) =
     cond (eqZ (valueIn before s) (valueIn after s)) (changedIn before after settings) (s ∷ changedIn before after settings)
 
--- they stand behind the first count of a list, and there are `total` with those
+-- they stand behind the first count of a list, which keeps its length, and there are `total` with those
 pub record Collected (settings : List ℕ) (before after : List ℤ) (count : ℕ) (earlier : List ℕ) (total : ℕ) (changed : List ℕ) : Type 0 where
   pub bound : total ≤ count + length settings
   pub sized : length changed ≡ length earlier
