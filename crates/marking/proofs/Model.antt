@@ -13,7 +13,7 @@ use lib.ListN.{length, getD, take, drop, length-append, length-drop, List·getD-
 use lib.Seq.{getD-drop, length-take-le, drop-at, drop-append-add}
 use Rattle.machine.specs.Settings.{settingCount, Environment, valueIn, isSome, lookup}
 use Rattle.machine.proofs.Cases.{by-test₂, both}
-use Rattle.model.specs.History.{Change, status, lists, History, allSettings}
+use Rattle.model.specs.History.{Change, lists, History, allSettings}
 use Rattle.model.specs.Form.{holds, distinctSettings, Formed}
 use Rattle.model.specs.Walk.{markLive, liveAtEnd}
 use Rattle.model.specs.Cabinet.{Cabinet, blank, historyOf, withHistory}
