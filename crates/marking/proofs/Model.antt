@@ -13,7 +13,7 @@ use lib.ListN.{length, getD, take, drop, length-append, length-drop, List·getD-
 use lib.Seq.{getD-drop, length-take-le, drop-at, drop-append-add}
 use Rattle.machine.specs.Settings.{settingCount, Environment, valueIn, isSome, lookup}
 use Rattle.machine.proofs.Cases.{by-test₂, both}
-use Rattle.model.specs.History.{Change, status, lists, History, allSettings}
+use Rattle.model.specs.History.{Change, lists, History, allSettings}
 use Rattle.model.specs.Form.{holds, distinctSettings, Formed}
 use Rattle.model.specs.Walk.{markLive, liveAtEnd}
 use Rattle.model.specs.Cabinet.{Cabinet, blank, historyOf, withHistory}
@@ -26,7 +26,7 @@ use Rattle.model.proofs.Order.{changesAt-length}
 use Rattle.model.proofs.Tables.{reads-at, writes-at}
 use Rattle.search.proofs.Model.{historyIn, held-changes, history-length, place-of}
 use Rattle.marking.specs.Marks.{columnsOf, listAt, writesSetting, markedSettings, followed, AllSettings, Walkable}
-use Rattle.marking.specs.Uses.{Numbers, lastBelow, readsValid, ReadersEnd, WritersEnd, Settled, Markable, Uses}
+use Rattle.marking.specs.Uses.{Numbers, LastUses, ReadersEnd, WritersEnd, Settled, Uses, Noted, Notable, UsesNoted, Markable}
 use Rattle.marking.proofs.LastUses.{readers-end, writers-end, settled-none}
 use Rattle.marking.proofs.LiveSets.{writes-one, writtenIn, live-unwritten, written-some, written-none, Agree, mark-agrees}
 use Rattle.marking.proofs.Restated.{withStatus}
@@ -86,6 +86,18 @@ module _ {n : ℕ} {T : Tables} (g : Formed n T) where
         write-settings = λ i h. list-settings i (decLt i (heldCount T)) .1;
       }
 
+  -- for `note_uses`
+  pub notable : {noted : Bool} {from : ℕ} {readers writers settled : List ℕ} → from ≤ heldCount T → Noted noted from T readers writers settled → Notable noted from (heldCount T) (columnsOf T) (length (T .status)) readers writers
+  notable h d =
+      let l = facts g .sizes in
+      record {
+        within = h;
+        small = omega (arith, facts g .form .small, l .capacity);
+        listed = omega (arith, facts g .form .small, l .order);
+        walkable = walkable-form;
+        none = λ e. let z = d .none e in (z .0, z .1);
+      }
+
   -- for `mark_settings`
   pub markable : {from : ℕ} {readers writers settled : List ℕ} → Uses from T readers writers settled → Markable from (columnsOf T) (T .status) readers settled
   markable u =
@@ -98,8 +110,13 @@ module _ {n : ℕ} {T : Tables} (g : Formed n T) where
 -- ---- up the order list
 
 -- after `last_uses`, with nothing settled
-pub uses-first : {T : Tables} {readers writers settled : List ℕ} → Numbers readers (λ s. lastBelow (readsValid (columnsOf T) (T .status) s) (heldCount T)) → Numbers writers (λ s. lastBelow (writesSetting (columnsOf T) s) (heldCount T)) → Numbers settled (λ s. 0) → Uses 0 T readers writers settled
-uses-first r w u = record { readers-end = readers-end r; writers-end = writers-end w; settled-to = settled-none u }
+pub uses-first : {from : ℕ} {T : Tables} {readers writers settled : List ℕ} → LastUses from (heldCount T) (columnsOf T) (T .status) readers writers → Numbers settled (λ s. 0) → Uses from T readers writers settled
+uses-first u d = record { readers-end = readers-end u; writers-end = writers-end u; settled-to = settled-none d }
+
+-- after `note_uses`
+pub uses-noted : {noted : Bool} {from : ℕ} {T : Tables} {readers writers settled readers' writers' : List ℕ} → Noted noted from T readers writers settled → UsesNoted noted from (heldCount T) (columnsOf T) (T .status) readers writers readers' writers' → Uses from T readers' writers' settled
+uses-noted {noted = true} d e = let k = e .kept refl in rw (k .0, k .1) (d .uses refl)
+uses-noted {noted = false} d e = uses-first (e .first refl) (d .none refl .2)
 
 -- changes passed over
 pub uses-passed : {from : ℕ} (from' : ℕ) {T : Tables} {readers writers settled : List ℕ} → from ≤ from' → Uses from T readers writers settled → Uses from' T readers writers settled

@@ -14,7 +14,7 @@ use Rattle.machine.specs.Settings.{valueIn}
 use Rattle.model.specs.Form.{holds}
 use Rattle.marking.proofs.Walks.{place-length}
 use Rattle.marking.specs.Marks.{Columns, listAt, writesSetting, markedPlace, markedFrom, endFrom, followed, Listed, Walkable}
-use Rattle.marking.specs.Uses.{noted}
+use Rattle.marking.specs.Uses.{numbered}
 
 -- ---- a list of settings
 
@@ -110,13 +110,13 @@ module _ {C : Columns} {s from to : ℕ} {status₀ status : List ℕ} {p end : 
 -- ---- numbers stored for the settings of a list
 
 module _ (settings : List ℕ) (v : ℕ) (j : ℕ) (numbers : List ℕ) where
-  pub noted-next : j < length settings → noted (drop (j + 1) settings) v (set numbers (getD settings j 0) v) ≡ noted (drop j settings) v numbers
-  unfolding noted
-  noted-next h = rw add-one (ap (λ (l : List ℕ). noted l v numbers) (sym (drop-cons settings j 0 h)))
+  pub numbered-next : j < length settings → numbered (drop (j + 1) settings) v (set numbers (getD settings j 0) v) ≡ numbered (drop j settings) v numbers
+  unfolding numbered
+  numbered-next h = rw add-one (ap (λ (l : List ℕ). numbered l v numbers) (sym (drop-cons settings j 0 h)))
 
-  pub noted-end : length settings ≤ j → numbers ≡ noted (drop j settings) v numbers
-  unfolding noted
-  noted-end h = rw (drop-of-length-le settings {i = j} h)
+  pub numbered-end : length settings ≤ j → numbers ≡ numbered (drop j settings) v numbers
+  unfolding numbered
+  numbered-end h = rw (drop-of-length-le settings {i = j} h)
 
 -- ---- the view
 

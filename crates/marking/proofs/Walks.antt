@@ -112,11 +112,6 @@ module _ (C : Columns) (s : ℕ) where
 
   -- ---- its end
 
-  pub end-from : (p m : ℕ) → p ≤ endFrom C s p m
-  unfolding endFrom
-  end-from p zero = omega arith
-  end-from p (suc m) = let ih = end-from (suc p) m in by-test (p ≤_) (writesSetting C s p) (λ t. omega arith) (λ t. omega arith)
-
   pub end-within : (p m : ℕ) → endFrom C s p m ≤ p + m
   unfolding endFrom
   end-within p zero = omega arith

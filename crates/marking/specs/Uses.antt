@@ -1,10 +1,10 @@
 -- How far each setting matters: up to where it has Valid readers, up to where it has writers, and how far it is settled. All speak of the positions of the order list from a first one on.
 use mathlib.Core.Path.{_≡_}
-use mathlib.Core.Bool.{Bool, true, cond, _&&_}
+use mathlib.Core.Bool.{Bool, true, false, cond, _&&_}
 use mathlib.Core.List.{List, [], _∷_}
 use mathlib.Core.Logic.{_⊎_}
 use Prim.Native.Nat.{ℕ, zero, suc, _-_, _<_, _≤_}
-use lib.Dec.{eqb}
+use lib.Dec.{eqb, leb}
 use lib.ListN.{length, getD, set}
 use Rattle.machine.specs.Settings.{settingCount}
 use Rattle.model.specs.Tables.{Tables, heldCount}
@@ -18,18 +18,23 @@ pub record Numbers (numbers : List ℕ) (number : ℕ → ℕ) : Type 0 where
   pub each : (s : ℕ) → s < settingCount → getD numbers s 0 ≡ number s
 
 -- the number of each of some settings stored
-unfoldable pub noted : List ℕ → ℕ → List ℕ → List ℕ
-noted [] v numbers = numbers
-noted (s ∷ settings) v numbers = noted settings v (set numbers s v)
+unfoldable pub numbered : List ℕ → ℕ → List ℕ → List ℕ
+numbered [] v numbers = numbers
+numbered (s ∷ settings) v numbers = numbered settings v (set numbers s v)
 
--- one past the last position below a count that passes a test, or 0
-unfoldable pub lastBelow : (ℕ → Bool) → ℕ → ℕ
-lastBelow test zero = 0
-lastBelow test (suc p) = cond (test p) (suc p) (lastBelow test p)
+-- one past the last position, from a first one on and below a count, that passes a test, or 0
+unfoldable pub lastFrom : (ℕ → Bool) → ℕ → ℕ → ℕ
+lastFrom test from zero = 0
+lastFrom test from (suc p) = cond (leb from p && test p) (suc p) (lastFrom test from p)
 
 -- is the change at a position Valid, and does it read a setting
 abbrev pub readsValid : Columns → List ℕ → ℕ → ℕ → Bool
 readsValid C status s p = eqb (getD status (getD (C .order) p 0) 0) 1 && readsSetting C s p
+
+-- from a first position on and below a count: of each setting one past the last Valid change that reads it, and one past the last change that writes it
+pub record LastUses (from count : ℕ) (C : Columns) (status readers writers : List ℕ) : Type 0 where
+  pub read : Numbers readers (λ s. lastFrom (readsValid C status s) from count)
+  pub wrote : Numbers writers (λ s. lastFrom (writesSetting C s) from count)
 
 -- ---- what is known of the settings while turns go up the order list
 
@@ -58,6 +63,24 @@ pub record Uses (from : ℕ) (T : Tables) (readers writers settled : List ℕ) :
   pub readers-end : ReadersEnd from (heldCount T) (columnsOf T) (T .status) readers
   pub writers-end : WritersEnd from (heldCount T) (columnsOf T) writers
   pub settled-to : Settled from (columnsOf T) (T .status) readers settled
+
+-- what is noted of the settings: all that is needed, or nothing yet
+pub record Noted (noted : Bool) (from : ℕ) (T : Tables) (readers writers settled : List ℕ) : Type 0 where
+  pub uses : noted ≡ true → Uses from T readers writers settled
+  pub none : noted ≡ false → Numbers readers (λ s. 0) × Numbers writers (λ s. 0) × Numbers settled (λ s. 0)
+
+-- what noting the last uses relies on: positions of the order list, walks within the tables, and no number where nothing is noted
+pub record Notable (noted : Bool) (from count : ℕ) (C : Columns) (places : ℕ) (readers writers : List ℕ) : Type 0 where
+  pub within : from ≤ count
+  pub small : count ≤ 4096
+  pub listed : count ≤ length (C .order)
+  pub walkable : Walkable C places
+  pub none : noted ≡ false → Numbers readers (λ s. 0) × Numbers writers (λ s. 0)
+
+-- what it gives: the numbers as they were, where they were noted, or the last uses
+pub record UsesNoted (noted : Bool) (from count : ℕ) (C : Columns) (status readers writers readers' writers' : List ℕ) : Type 0 where
+  pub kept : noted ≡ true → (readers' ≡ readers) × (writers' ≡ writers)
+  pub first : noted ≡ false → LastUses from count C status readers' writers'
 
 -- what marking some settings relies on: walks within the order list, and what is settled
 pub record Markable (from : ℕ) (C : Columns) (status readers settled : List ℕ) : Type 0 where

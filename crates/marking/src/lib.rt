@@ -200,7 +200,7 @@ pub fn follow_view(
 // A number stored for each setting of a list.
 fn note_list(settings: &[u16], number: u16, numbers: &mut [u16; 1024])
     requires { ⌜ marks.AllSettings (now settings) ⌝ }
-    ensures { λ _. ⌜ now (numbers .exit) ≡ uses.noted (now (settings .entry)) number (now (numbers .entry)) ⌝ }
+    ensures { λ _. ⌜ now (numbers .exit) ≡ uses.numbered (now (settings .entry)) number (now (numbers .entry)) ⌝ }
 {
     let mut j = 0;
     while j < settings.len() {
@@ -214,15 +214,16 @@ fn note_at(place: usize, number: u16, counts: &[u16], settings: &[u16], numbers:
     requires { ⌜ marks.Listed place (now counts) (now settings)
         × marks.AllSettings (marks.listAt (now counts) (now settings) place) ⌝ }
     ensures { λ _. ⌜ now (numbers .exit)
-        ≡ uses.noted (marks.listAt (now (counts .entry)) (now (settings .entry)) place) number (now (numbers .entry)) ⌝ }
+        ≡ uses.numbered (marks.listAt (now (counts .entry)) (now (settings .entry)) place) number (now (numbers .entry)) ⌝ }
 {
     let begin = 32 * place;
     let end = begin + counts[place] as usize;
     note_list(&settings[begin..end], number, numbers);
 }
 
-// Of each setting one past the last Valid change that reads it, and one past the last change that writes it; 0 where there is none.
+// From a position on, of each setting one past the last Valid change that reads it, and one past the last change that writes it; 0 where there is none.
 pub fn last_uses(
+    from: usize,
     count: usize,
     order: &[u16],
     status: &[u16],
@@ -233,17 +234,16 @@ pub fn last_uses(
     readers: &mut [u16; 1024],
     writers: &mut [u16; 1024],
 )
-    requires { ⌜ (count ≤ 4096) × (count ≤ length (now order))
+    requires { ⌜ (from ≤ count) × (count ≤ 4096) × (count ≤ length (now order))
         × marks.Walkable (marks.columns (now order) (now reads) (now sources) (now writes) (now targets)) (length (now status))
         × uses.Numbers (now readers) (λ s. 0) × uses.Numbers (now writers) (λ s. 0) ⌝ }
     ensures { λ _. ⌜
         (let C =
         marks.columns (now (order .entry)) (now (reads .entry)) (now (sources .entry)) (now (writes .entry)) (now (targets .entry)) in
-        uses.Numbers (now (readers .exit)) (λ s. uses.lastBelow (uses.readsValid C (now (status .entry)) s) count)
-        × uses.Numbers (now (writers .exit)) (λ s. uses.lastBelow (marks.writesSetting C s) count))
+        uses.LastUses from count C (now (status .entry)) (now (readers .exit)) (now (writers .exit)))
         ⌝ }
 {
-    let mut p = 0;
+    let mut p = from;
     while p < count {
         let place = order[p] as usize;
         let next = p + 1;
@@ -252,5 +252,46 @@ pub fn last_uses(
         }
         note_at(place, next as u16, writes, targets, writers);
         p = next;
+    }
+}
+
+// The last uses from a position on, where they are not noted yet.
+pub fn note_uses(
+    noted: bool,
+    from: usize,
+    count: usize,
+    order: &[u16],
+    status: &[u16],
+    reads: &[u16],
+    sources: &[u16],
+    writes: &[u16],
+    targets: &[u16],
+    readers: &mut [u16; 1024],
+    writers: &mut [u16; 1024],
+)
+    requires { ⌜
+        (let C = marks.columns (now order) (now reads) (now sources) (now writes) (now targets) in
+        uses.Notable noted from count C (length (now status)) (now readers) (now writers))
+        ⌝ }
+    ensures { λ _. ⌜
+        (let C =
+        marks.columns (now (order .entry)) (now (reads .entry)) (now (sources .entry)) (now (writes .entry)) (now (targets .entry)) in
+        uses.UsesNoted noted from count C (now (status .entry)) (now (readers .entry)) (now (writers .entry))
+        (now (readers .exit)) (now (writers .exit)))
+        ⌝ }
+{
+    if !noted {
+        last_uses(
+            from,
+            count,
+            order,
+            status,
+            reads,
+            sources,
+            writes,
+            targets,
+            readers,
+            writers,
+        );
     }
 }

@@ -4,7 +4,7 @@ use mathlib.Core.List.{List}
 use Prim.Native.Nat.{ℕ}
 use borrow.Author.Needs.{needs}
 use Rattle.marking.specs.Marks.{AllSettings}
-use Rattle.marking.specs.Uses.{noted}
+use Rattle.marking.specs.Uses.{numbered}
 use Rattle.marking.proofs.Steps.{lent-list}
 use Rattle.marking.proofs.note_at.Statement.{statement}
 use Rattle.marking.proofs.note_at.Tie as tie
@@ -17,7 +17,7 @@ note-list-requires c κs =
 returns : tie.Need-returns
 returns c =
     let a = c .before .before .before .before .before .before .args in
-    c .note-list .ensures ∙ ap (λ (l : List ℕ). noted l (a .number) (a .numbers .now)) (lent-list (a .place) (a .counts .now) (a .settings .now))
+    c .note-list .ensures ∙ ap (λ (l : List ℕ). numbered l (a .number) (a .numbers .now)) (lent-list (a .place) (a .counts .now) (a .settings .now))
 
 pub note-at-spec : {M : Type 1} → statement M
 note-at-spec =

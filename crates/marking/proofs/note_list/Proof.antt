@@ -4,14 +4,14 @@ use Prim.Native.Nat.{_≤_, _-_}
 use native.Mathlib.Omega.{arith}
 use borrow.Author.Needs.{needs}
 use lib.ListN.{length, drop}
-use Rattle.marking.specs.Uses.{noted}
-use Rattle.marking.proofs.Steps.{noted-next, noted-end}
+use Rattle.marking.specs.Uses.{numbered}
+use Rattle.marking.proofs.Steps.{numbered-next, numbered-end}
 use Rattle.marking.proofs.note_list.Statement.{statement}
 use Rattle.marking.proofs.note_list.Tie as tie
 
 abbrev Inv-loop : tie.InvT-loop
 Inv-loop settings number numbers₀ j₀ numbers j =
-    (j ≤ length settings) × (noted (drop j settings) number numbers ≡ noted settings number numbers₀)
+    (j ≤ length settings) × (numbered (drop j settings) number numbers ≡ numbered settings number numbers₀)
 
 abbrev μ-loop : tie.MeasureT-loop
 μ-loop settings number numbers₀ j₀ numbers j = length settings - j
@@ -19,12 +19,12 @@ abbrev μ-loop : tie.MeasureT-loop
 loop-again : tie.Need-loop-again Inv-loop μ-loop
 loop-again c =
     let l = c .before .before .loop in
-    (omega arith, noted-next _ _ (l .j) (l .numbers) (c .before .loop-test .taken) ∙ l .inv .1)
+    (omega arith, numbered-next _ _ (l .j) (l .numbers) (c .before .loop-test .taken) ∙ l .inv .1)
 
 returns : tie.Need-returns Inv-loop μ-loop
 returns c =
     let l = c .before .loop in
-    noted-end _ _ (l .j) (l .numbers) (c .loop-test .left) ∙ l .inv .1
+    numbered-end _ _ (l .j) (l .numbers) (c .loop-test .left) ∙ l .inv .1
 
 pub note-list-spec : {M : Type 1} → statement M
 note-list-spec =
