@@ -14,7 +14,7 @@ use Rattle.model.specs.Form.{Formed}
 use Rattle.model.specs.Calls.{Reply, reply, stepReply, roundOf}
 use Rattle.search.specs.Searches.{isWaiting, waitingIn}
 use Rattle.values.specs.Values.{valuesBelow, Known}
-use Rattle.marking.specs.Uses.{Uses}
+use Rattle.marking.specs.Uses.{Uses, Noted}
 use Rattle.acts.specs.declared.Act.{Act}
 use Rattle.acts.specs.declared.Act.the-variants as act
 
@@ -30,6 +30,17 @@ pub record Going (k : ℕ) (T : Tables) (known : List ℕ) (before after : List 
   pub passed : (j : ℕ) → j < k → isWaiting (T .order) (T .status) j ≡ false
   pub values : Known (valuesBelow (T .order) (T .writes) (T .targets) (T .written) k) known before after
   pub uses : Uses (k + 1) T readers writers settled
+
+-- the change at a position has its turn; what is noted of the settings above it, if anything is
+pub record Turnable (noted : Bool) (k : ℕ) (T : Tables) (known : List ℕ) (before after : List ℤ) (readers writers settled : List ℕ) : Type 0 where
+  pub formed : Formed (length (T .order)) T
+  pub waits : waitingIn T ≡ some k
+  pub values : Known (valuesBelow (T .order) (T .writes) (T .targets) (T .written) k) known before after
+  pub notes : Noted noted (k + 1) T readers writers settled
+
+-- a drain's step: a Valid change is passed over, any other has its turn
+abbrev pub Passed : Turned → Tables → Tables → Type 0
+Passed r T U = ((r ≡ turn-answer.Idle) × (U ≡ T)) ⊎ (reply r U ≡ turned T)
 
 -- ---- by what is done with a change
 

@@ -1,0 +1,75 @@
+-- A drain's pass up the order list, change by change.
+use mathlib.Core.Path.{_≡_, sym, ap, subst, _∙_}
+use mathlib.Core.List.{List}
+use Prim.Native.Nat.{ℕ, _+_, _<_, _≤_}
+use native.Mathlib.Omega.{arith}
+use lib.IntN.{ℤ}
+use lib.ListN.{length, replicate}
+use Rattle.model.specs.declared.Totals.{Totals}
+use Rattle.model.specs.declared.Turned.{Turned}
+use Rattle.model.specs.History.{start, allSettings}
+use Rattle.model.specs.Tables.{Tables, heldCount}
+use Rattle.model.specs.Form.{Formed}
+use Rattle.model.specs.Calls.{reply}
+use Rattle.model.proofs.Form.{facts}
+use Rattle.search.specs.Searches.{isWaiting}
+use Rattle.search.proofs.First.{none-first}
+use Rattle.values.specs.Values.{Known}
+use Rattle.values.proofs.Known.{known-start, values-first}
+use Rattle.marking.specs.Marks.{columnsOf, Walkable}
+use Rattle.marking.specs.Uses.{Numbers, LastUses}
+use Rattle.marking.proofs.LastUses.{numbers-new}
+use Rattle.marking.proofs.Model.{walkable-form, uses-first, uses-passed}
+use Rattle.turns.specs.Turns.{Going, Passed}
+use Rattle.drains.specs.Drained.{countedIn, drained}
+use Rattle.drains.proofs.Drains.{Draining, drain-begins, drain-passed, drain-ends-here}
+
+-- n counts the turns so far, which have gone up to position k
+pub record Passing (T₀ T : Tables) (n : Totals) (k : ℕ) (known : List ℕ) (before after : List ℤ) (readers writers settled : List ℕ) : Type 0 where
+  pub within : k ≤ heldCount T
+  pub drains : Draining T₀ T n
+  pub going : Going k T known before after readers writers settled
+
+module _ {T : Tables} (g : Formed (length (T .order)) T) where
+  -- what `last_uses` relies on
+  pub all-noted : (0 ≤ heldCount T) × (heldCount T ≤ 4096) × (heldCount T ≤ length (T .order)) × Walkable (columnsOf T) (length (T .status)) × Numbers (replicate 1024 0) (λ s. 0) × Numbers (replicate 1024 0) (λ s. 0)
+  all-noted = (omega arith, omega (arith, facts g .form .small, facts g .sizes .capacity), omega (arith, facts g .form .small), walkable-form g, numbers-new, numbers-new)
+
+  -- before the first change
+  pub pass-begins :
+      {before after : List ℤ} {readers writers : List ℕ} →
+      before ≡ allSettings start →
+      after ≡ allSettings start →
+      LastUses 0 (heldCount T) (columnsOf T) (T .status) readers writers →
+      Passing T T (record { ran = 0; stood = 0; cleared = 0 }) 0 (replicate 1024 1) before after readers writers (replicate 1024 0)
+  pass-begins {before} {after} b a u =
+      record {
+        within = omega arith;
+        drains = drain-begins T g;
+        going =
+            record {
+              formed = g;
+              passed = λ j h. absurd (omega arith);
+              values = subst (λ env. Known env (replicate 1024 1) before after) (sym (values-first (T .order) (T .writes) (T .targets) (T .written))) (known-start b a);
+              uses = uses-passed (0 + 1) (omega arith) (uses-first u numbers-new);
+            };
+      }
+
+-- one change further
+pub pass-next :
+    {T₀ T U : Tables} {n n' : Totals} {k : ℕ} {known : List ℕ} {before after : List ℤ} {readers writers settled : List ℕ} {known' : List ℕ} {before' after' : List ℤ} {readers' writers' settled' : List ℕ} {a : Turned} →
+    Passing T₀ T n k known before after readers writers settled →
+    k < heldCount U →
+    Passed a T U × Going (k + 1) U known' before' after' readers' writers' settled' →
+    n' ≡ countedIn a n →
+    Passing T₀ U n' (k + 1) known' before' after' readers' writers' settled'
+pass-next p h s c = record { within = omega arith; drains = drain-passed _ (p .drains .formed) (p .drains) (s .0) c; going = s .1 }
+
+-- past the last change
+pub pass-ends :
+    {T₀ T : Tables} {n : Totals} {k : ℕ} {known : List ℕ} {before after : List ℤ} {readers writers settled : List ℕ} →
+    heldCount T ≤ k →
+    Passing T₀ T n k known before after readers writers settled →
+    reply n T ≡ drained T₀
+pass-ends {T = T} l p =
+    drain-ends-here _ (p .drains .formed) (p .drains) (none-first (isWaiting (T .order) (T .status)) (heldCount T) (λ j h. p .going .passed j (omega arith)))

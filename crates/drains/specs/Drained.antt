@@ -1,0 +1,25 @@
+-- A drain as the code counts it.
+use Prim.Native.Nat.{_+_}
+use lib.ListN.{length}
+use Rattle.model.specs.declared.Totals.{Totals}
+use Rattle.model.specs.declared.Turned.{Turned}
+use Rattle.model.specs.declared.Turned.the-variants as turn-answer
+use Rattle.model.specs.Drain.{totals}
+use Rattle.model.specs.Cabinet.{withHistory}
+use Rattle.model.specs.Tables.{Tables, encode, decode}
+use Rattle.model.specs.Calls.{Reply, drainOf}
+
+-- the totals with one more turn
+abbrev pub countedIn : Turned → Totals → Totals
+countedIn turn-answer.Idle n = n
+countedIn (turn-answer.Ran t) n = record { ran = n .ran + 1; stood = n .stood; cleared = n .cleared }
+countedIn (turn-answer.Stood t) n = record { ran = n .ran; stood = n .stood + 1; cleared = n .cleared }
+countedIn (turn-answer.Cleared t) n = record { ran = n .ran; stood = n .stood; cleared = n .cleared + 1 }
+countedIn (turn-answer.Refused r) n = n
+
+-- the totals and the tables after a drain of tables in form; their capacity is the length of the order list
+abbrev pub drained : Tables → Reply Totals
+drained T =
+    let c = decode T in
+    let d = drainOf c in
+    record { answer = totals (d .events); tables = encode (length (T .order)) (withHistory c (d .history) (d .view)) }

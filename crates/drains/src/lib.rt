@@ -1,0 +1,130 @@
+// A drain on tables in form: one pass up the order list, in which each change is passed over or has its turn.
+use fresh::fill_start;
+use marking::last_uses;
+use model::Totals;
+use model::Turned;
+use turns::pass_at;
+ghost use mathlib.Core.Path.{_≡_};
+ghost use Prim.Native.Nat.{_≤_};
+ghost use lib.ListN.{length};
+ghost use Rattle.model.specs.Tables.{tables, withTurn};
+ghost use Rattle.model.specs.Calls.{reply};
+ghost use Rattle.model.specs.Form.{Formed};
+ghost use Rattle.drains.specs.Drained.{countedIn, drained};
+
+// The totals with one more turn.
+fn counted(totals: Totals, answer: Turned) -> Totals
+    requires { ⌜ (totals .ran ≤ 4096) × (totals .stood ≤ 4096) × (totals .cleared ≤ 4096) ⌝ }
+    ensures { λ r. ⌜ r ≡ countedIn answer totals ⌝ }
+{
+    let ran = totals.ran;
+    let stood = totals.stood;
+    let cleared = totals.cleared;
+    match answer {
+        Turned::Idle => totals,
+        Turned::Ran(_) => Totals {
+            ran: ran + 1,
+            stood: stood,
+            cleared: cleared,
+        },
+        Turned::Stood(_) => Totals {
+            ran: ran,
+            stood: stood + 1,
+            cleared: cleared,
+        },
+        Turned::Cleared(_) => Totals {
+            ran: ran,
+            stood: stood,
+            cleared: cleared + 1,
+        },
+        Turned::Refused(_) => totals,
+    }
+}
+
+// The turns of a drain, and how many ran, stood and were cleared. All values are known from the start, and it is noted once how far each setting matters.
+pub fn turn_all(
+    held: &[u16],
+    timestamps: &[u64],
+    order: &[u16],
+    status: &mut [u16],
+    withdrawn: &[u16],
+    lengths: &[u16],
+    programs: &[u8],
+    reads: &mut [u16],
+    writes: &mut [u16],
+    sources: &mut [u16],
+    seen: &mut [i32],
+    targets: &mut [u16],
+    written: &mut [i32],
+    view: &mut [i32],
+) -> Totals
+    requires { ⌜ Formed (length (now order))
+        (tables (now held) (now timestamps) (now order) (now status) (now withdrawn) (now lengths) (now programs) (now reads)
+        (now writes) (now sources) (now seen) (now targets) (now written) (now view)) ⌝ }
+    ensures { λ r. ⌜
+        (let T =
+        tables (now (held .entry)) (now (timestamps .entry)) (now (order .entry)) (now (status .entry)) (now (withdrawn .entry))
+        (now (lengths .entry)) (now (programs .entry)) (now (reads .entry)) (now (writes .entry)) (now (sources .entry))
+        (now (seen .entry)) (now (targets .entry)) (now (written .entry)) (now (view .entry)) in
+        reply r
+        (withTurn T (now (status .exit)) (now (reads .exit)) (now (writes .exit)) (now (sources .exit)) (now (seen .exit))
+        (now (targets .exit)) (now (written .exit)) (now (view .exit)))
+        ≡ drained T)
+        ⌝ }
+{
+    let count = held[0] as usize;
+    let mut before = [0i32; 1024];
+    let mut after = [0i32; 1024];
+    let mut known = [1u8; 1024];
+    let mut readers = [0u16; 1024];
+    let mut writers = [0u16; 1024];
+    let mut settled = [0u16; 1024];
+    fill_start(&mut before);
+    fill_start(&mut after);
+    last_uses(
+        0,
+        count,
+        order,
+        status,
+        reads,
+        sources,
+        writes,
+        targets,
+        &mut readers,
+        &mut writers,
+    );
+    let mut totals = Totals {
+        ran: 0,
+        stood: 0,
+        cleared: 0,
+    };
+    let mut k = 0;
+    while k < count {
+        let answer = pass_at(
+            k,
+            held,
+            timestamps,
+            order,
+            status,
+            withdrawn,
+            lengths,
+            programs,
+            reads,
+            writes,
+            sources,
+            seen,
+            targets,
+            written,
+            view,
+            &mut before,
+            &mut after,
+            &mut known,
+            &mut readers,
+            &mut writers,
+            &mut settled,
+        );
+        totals = counted(totals, answer);
+        k += 1;
+    }
+    totals
+}
