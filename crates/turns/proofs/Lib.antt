@@ -4,3 +4,4 @@ pub mod Unused
 pub mod Relied
 pub mod Model
 pub mod Outcomes
+pub mod Steps

@@ -8,22 +8,29 @@ use lib.ListN.{length, getD}
 use Rattle.model.specs.Tables.{Tables, heldCount, slots}
 use Rattle.model.specs.Form.{Formed}
 use Rattle.model.proofs.Form.{facts}
+use Rattle.search.specs.Searches.{WriteLists}
 use Rattle.search.proofs.Model.{placed-writes, listed}
 use Rattle.values.specs.Values.{valuesBelow, OfSettings, Known, Lookable}
 use Rattle.values.proofs.Model.{program-formed}
 use Rattle.values.proofs.Parts.{tested-settings}
 use Rattle.acts.specs.Acts.{Positioned, Decidable, Runnable}
 use Rattle.storing.specs.Stored.{NewLists, ListStorable, ListsStorable}
+use Rattle.marking.specs.Marks.{columnsOf}
+use Rattle.marking.specs.Uses.{Uses}
+use Rattle.marking.proofs.Model.{markable}
+use Rattle.replacement.specs.Replaced.{Fitting, Replaceable}
 use Rattle.turns.proofs.Unused.{settings-unused, values-unused}
 
--- new lists in their 32 slots
-pub record Fitting (l : NewLists) : Type 0 where
-  pub reads : l .reads ≤ 32
-  pub writes : l .writes ≤ 32
-  pub sources : length (l .sources) ≡ 32
-  pub seen : length (l .seen) ≡ 32
-  pub targets : length (l .targets) ≡ 32
-  pub written : length (l .written) ≡ 32
+-- a position of the order list and its place are within the tables
+pub record Slots (T : Tables) (k : ℕ) : Type 0 where
+  pub counted : 0 < length (T .held)
+  pub few : heldCount T ≤ 4096
+  pub position : k < heldCount T
+  pub order : k < length (T .order)
+  pub place : getD (T .order) k 0 < 4096
+  pub timestamps : getD (T .order) k 0 < length (T .timestamps)
+  pub status : getD (T .order) k 0 < length (T .status)
+  pub writes : getD (T .order) k 0 < length (T .writes)
 
 module _ {n : ℕ} {T : Tables} (g : Formed n T) (k : ℕ) (h : k < heldCount T) where
   abbrev place : ℕ
@@ -38,6 +45,21 @@ module _ {n : ℕ} {T : Tables} (g : Formed n T) (k : ℕ) (h : k < heldCount T)
         ordered = omega (arith, h, facts g .form .small, facts g .sizes .order);
         small = omega (arith, e, facts g .sizes .capacity);
         place = omega (arith, e, place-held, facts g .form .small);
+      }
+
+  pub slots-of : Slots T k
+  slots-of =
+      let z = facts g .sizes in
+      let small = facts g .form .small in
+      record {
+        counted = omega (arith, z .held);
+        few = omega (arith, small, z .capacity);
+        position = h;
+        order = omega (arith, h, small, z .order);
+        place = omega (arith, place-held, small, z .capacity);
+        timestamps = omega (arith, place-held, small, z .timestamps);
+        status = omega (arith, place-held, small, z .status);
+        writes = omega (arith, place-held, small, z .writes);
       }
 
   pub decidable : Decidable k (T .order) (T .status) (T .withdrawn) (T .reads) (T .sources) (T .seen) (length (T .writes))
@@ -69,7 +91,7 @@ module _ {n : ℕ} {T : Tables} (g : Formed n T) (k : ℕ) (h : k < heldCount T)
   pub lookable : {known : List ℕ} {before after : List ℤ} → Known (valuesBelow (T .order) (T .writes) (T .targets) (T .written) k) known before after → Lookable k (T .order) (T .writes) (T .targets) (T .written) known before after
   lookable q = record { placed = placed-writes g k (omega (arith, h)); listed = listed g; right = q }
 
-  pub storable : (l : NewLists) → Fitting l → ListsStorable place l (T .reads) (T .writes) (T .sources) (T .seen) (T .targets) (T .written)
+  storable : (l : NewLists) → Fitting l → ListsStorable place l (T .reads) (T .writes) (T .sources) (T .seen) (T .targets) (T .written)
   storable l f =
       let z = facts g .sizes in
       let p = at-place (z .writes) in
@@ -93,3 +115,25 @@ module _ {n : ℕ} {T : Tables} (g : Formed n T) (k : ℕ) (h : k < heldCount T)
               of-values = record { small = omega (arith, p .place, p .small); short = f .writes; old-short = wrote .short; long = omega (arith, f .written); room = value-room; unused = values-unused wrote value-room };
             };
       }
+
+  -- for `replace`
+  pub replaceable :
+      {known : List ℕ} {before after : List ℤ} {readers writers settled : List ℕ} →
+      Known (valuesBelow (T .order) (T .writes) (T .targets) (T .written) k) known before after →
+      Uses (k + 1) T readers writers settled →
+      Replaceable k (columnsOf T) (T .seen) (T .written) (T .lengths) (T .programs) (T .status) (T .view) known before after readers settled
+  replaceable q u =
+      record {
+        runnable = runnable;
+        at = at-place (facts g .sizes .writes);
+        settings = write-settings;
+        lookable = lookable q;
+        markable = markable g u;
+        viewed = facts g .sizes .view;
+        small = omega (arith, h, facts g .form .small, facts g .sizes .capacity);
+        storable = storable;
+      }
+
+  -- for `carry_place`
+  pub carriable : (getD (T .order) k 0 < length (T .writes)) × WriteLists (T .writes) (T .targets) (T .written) × OfSettings (slots 32 place (getD (T .writes) place 0) (T .targets))
+  carriable = (slots-of .writes, listed g, write-settings)
