@@ -2,7 +2,7 @@
 use mathlib.Core.Path.{_≡_, refl, sym, ap, ap₂, subst, _∙_}
 use mathlib.Core.Bool.{Bool, true, false, cond, not}
 use mathlib.Core.List.{List, [], _∷_, _++_, map}
-use mathlib.Core.Option.{some}
+use mathlib.Core.Option.{none, some}
 use Prim.Native.Nat.{ℕ, zero, suc, _+_, _<_, _≤_}
 use native.Mathlib.Decide.{decLt}
 use native.Mathlib.Numerals.{add-one}
@@ -32,7 +32,7 @@ use Rattle.search.specs.Searches.{isWaiting, waitingIn}
 use Rattle.search.proofs.First.{first-some}
 use Rattle.search.proofs.Model.{historyIn, held-changes, history-length, by-place}
 use Rattle.search.proofs.Passes.{passes, passes-turned}
-use Rattle.search.proofs.Waits.{status-of, waiting-held, waiting-some, walk-some}
+use Rattle.search.proofs.Waits.{status-of, walk-none, waiting-held, waiting-some, walk-some}
 use Rattle.values.specs.Values.{valuesBelow, Known}
 use Rattle.values.proofs.Model.{uptoIn, values-below, reads-here}
 use Rattle.marking.specs.Uses.{Uses}
@@ -125,6 +125,11 @@ module _ {n : ℕ} {T : Tables} (g : Formed n T) (k : ℕ) (h : k < heldCount T)
         ∙ ap (encode n) (history-again (decode T) marked (take k history ++ new ∷ rest) (T .view) view (facts g .sound .placed) size)
 
 -- ---- the turn
+
+-- none waits
+pub turn-idle : {T : Tables} → Formed (length (T .order)) T → waitingIn T ≡ none → reply turn-answer.Idle T ≡ turns.turned T
+unfolding turns.turned
+turn-idle {T} g w = sym (ap (stepReply (length (T .order)) T (decode T)) (round-walk start (historyIn T) (decode T .view) 0 (facts g .sound .rising) ∙ walk-none g w start (decode T .view)))
 
 module _ {T : Tables} (g : Formed (length (T .order)) T) (k : ℕ) (w : waitingIn T ≡ some k) where
   abbrev n : ℕ

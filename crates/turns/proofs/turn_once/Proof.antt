@@ -1,0 +1,106 @@
+use native.Mathlib.Omega.{arith}
+use mathlib.Core.Path.{refl}
+use Rattle.model.proofs.Form.{facts}
+use Rattle.search.proofs.Answers.{found-at, found-nothing}
+use Rattle.search.proofs.Waits.{placed-status}
+use Rattle.turns.proofs.Model.{turn-idle}
+use Rattle.turns.proofs.Steps.{turn-single}
+use borrow.Author.Needs.{needs}
+use Rattle.turns.proofs.turn_once.Statement.{statement}
+use Rattle.turns.proofs.turn_once.Tie as tie
+use Rattle.turns.proofs.turn_once.Reads as reads
+use Rattle.turns.proofs.turn_once.Lts as lts
+use Rattle.search.proofs.waiting.Reads as waiting-reads
+use Rattle.turns.proofs.turn_at.Reads as turn-at-reads
+
+
+-- src/lib.rt:177:17
+shared-slice-read-count : tie.Need-shared-slice-read-count
+shared-slice-read-count c = omega (arith, facts (c .before .before .before .before .before .before .before .before .before .before .before .before .pre) .sizes .held)
+
+-- src/lib.rt:177:17
+cast-count : tie.Need-cast-count
+cast-count c = omega (arith, c .shared-slice-known7 .given 0)
+
+-- src/lib.rt:178:11
+waiting-requires : tie.Need-waiting-requires
+waiting-requires c κs = placed-status (c .before .before .before .before .before .before .before .before .before .before .before .before .before .pre)
+
+-- src/lib.rt:179:19
+enum-known-k : tie.Need-enum-known-k
+enum-known-k c = search needs
+
+-- src/lib.rt:186:13
+turn-at-requires : tie.Need-turn-at-requires
+turn-at-requires c κs = turn-single (c .before .before .before .before .before .before .before .before .before .before .before .before .before .before .before .before .before .before .before .before .before .before .before .before .before .before .before .before .before .before .before .pre) (found-at _ (c .before .before .before .before .before .before .before .before .before .before .before .before .before .before .before .before .before .waiting .ensures) (c .before .before .before .before .before .before .before .before .before .before .before .before .before .before .before .k .given .1))
+
+-- src/lib.rt:211:27
+enum-told : tie.Need-enum-told
+enum-told c = search needs
+
+-- src/lib.rt:147:1
+same-length : tie.Need-same-length
+same-length c = c .before .before .before .before .before .before .before .before .before .before .before .before .before .turn-at .kept .1 .1 .1 .1 .1 .0
+
+-- src/lib.rt:147:1
+same-length-2 : tie.Need-same-length-2
+same-length-2 c = c .before .before .before .before .before .before .before .before .before .before .before .before .before .turn-at .kept .1 .1 .1 .1 .1 .1 .1 .1 .1 .0
+
+-- src/lib.rt:147:1
+same-length-3 : tie.Need-same-length-3
+same-length-3 c = c .before .before .before .before .before .before .before .before .before .before .before .before .before .turn-at .kept .1 .1 .1 .1 .1 .1 .1 .1 .1 .1 .0
+
+-- src/lib.rt:147:1
+same-length-4 : tie.Need-same-length-4
+same-length-4 c = c .before .before .before .before .before .before .before .before .before .before .before .before .before .turn-at .kept .1 .1 .1 .1 .1 .1 .1 .1 .1 .1 .1 .0
+
+-- src/lib.rt:147:1
+same-length-5 : tie.Need-same-length-5
+same-length-5 c = c .before .before .before .before .before .before .before .before .before .before .before .before .before .turn-at .kept .1 .1 .1 .1 .1 .1 .1 .1 .1 .1 .1 .1 .0
+
+-- src/lib.rt:147:1
+same-length-6 : tie.Need-same-length-6
+same-length-6 c = c .before .before .before .before .before .before .before .before .before .before .before .before .before .turn-at .kept .1 .1 .1 .1 .1 .1 .1 .1 .1 .1 .1 .1 .1 .0
+
+-- src/lib.rt:147:1
+same-length-7 : tie.Need-same-length-7
+same-length-7 c = c .before .before .before .before .before .before .before .before .before .before .before .before .before .turn-at .kept .1 .1 .1 .1 .1 .1 .1 .1 .1 .1 .1 .1 .1 .1 .0
+
+-- src/lib.rt:147:1
+same-length-8 : tie.Need-same-length-8
+same-length-8 c = c .before .before .before .before .before .before .before .before .before .before .before .before .before .turn-at .kept .1 .1 .1 .1 .1 .1 .1 .1 .1 .1 .1 .1 .1 .1 .1 .0
+
+-- src/lib.rt:147:1
+returns : tie.Need-returns
+returns c = c .before .before .before .before .before .before .before .before .before .before .before .before .before .turn-at .ensures .0
+
+-- src/lib.rt:147:1
+same-length-9 : tie.Need-same-length-9
+same-length-9 c = refl
+
+-- src/lib.rt:147:1
+returns-2 : tie.Need-returns-2
+returns-2 c = turn-idle (c .before .before .before .before .before .before .before .before .before .before .before .before .before .before .before .before .pre) (found-nothing _ (c .before .before .waiting .ensures) (c .enum-told .given .1))
+
+pub turn-once-spec : {M : Type 1} → statement M
+turn-once-spec =
+    tie.close
+    (tie.spec
+    shared-slice-read-count
+    cast-count
+    waiting-requires
+    enum-known-k
+    turn-at-requires
+    enum-told
+    same-length
+    same-length-2
+    same-length-3
+    same-length-4
+    same-length-5
+    same-length-6
+    same-length-7
+    same-length-8
+    returns
+    same-length-9
+    returns-2)
+
