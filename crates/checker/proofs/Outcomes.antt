@@ -16,8 +16,8 @@ use Rattle.model.specs.Form.{Formed}
 use Rattle.model.proofs.Form.{facts}
 use Rattle.model.specs.Refusals.{faultOf}
 use Rattle.tables.proofs.Faults.{faulty}
-use Rattle.turns.specs.Raw as turns
-use Rattle.checker.specs.Raw.{drained}
+use Rattle.turns.specs.Turns as turns
+use Rattle.drains.specs.Drained.{drained}
 
 module _ (n : ℕ) (T : Tables) where
   pub turn-fault : {r : ℕ} → r ≡ faultOf n T → (r ≡ 0 → ⊥) → reply (turn-answer.Refused r) T ≡ turn n T
