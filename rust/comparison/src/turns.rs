@@ -2,7 +2,7 @@
 
 use outside::checker::{Turn, Turned};
 use outside::program::{self, Access, SETTINGS};
-use outside::tables::{Status, Tables};
+use outside::tables::{Status, Tables, INFINITY};
 use std::collections::{BTreeMap, BTreeSet};
 
 /// Something that a turn does.
@@ -33,16 +33,41 @@ pub enum TurnEvent {
     /// A setting is written again, with another value, and with the same.
     Rewritten,
     RewrittenEqual,
-    /// A later change is marked, and one that writes the setting that marks it.
+    /// A later change is marked, one that writes the setting that marks it, and one that is
+    /// withdrawn and still writes something.
     Marked,
     MarkedWriter,
+    MarkedWithdrawn,
     /// A later Valid change that read a changed setting is not marked: there is a writer between.
+    /// The next writer is Invalid, or withdrawn.
     NextWriterStops,
+    InvalidWriterStops,
+    WithdrawnWriterStops,
     /// The view has a changed setting's new value, or the previous writer's since a write is gone,
     /// or what a later writer wrote.
     ViewWritten,
     ViewOnRemoval,
     ViewOfLaterWriter,
+    /// The view stays other than what the last writer of a setting wrote: that one is later than the
+    /// change, or the change does not change the setting.
+    WrongViewOfLaterWriter,
+    WrongViewOfUnchanged,
+}
+
+/// Something that comes of several turns of a drain.
+#[derive(Clone, Copy, Debug, PartialEq, Eq, PartialOrd, Ord)]
+#[allow(missing_docs)]
+pub enum DrainEvent {
+    /// A change stands that an earlier turn marked: a New change between gave a setting the value
+    /// back that it had seen.
+    StoodRestored,
+    /// A setting is changed that an earlier turn changed, below the next writer where that turn's
+    /// marking ended, or from there on.
+    ChangedWithin,
+    ChangedBeyond,
+    /// A change stays Valid and has no turn, though it saw another value than that as of its
+    /// timestamp.
+    WrongSeenStays,
 }
 
 /// What a turn did that altered the tables so.
@@ -50,8 +75,7 @@ pub fn events(before: &Tables, after: &Tables, turn: Turn) -> Vec<TurnEvent> {
     let mut events = vec![TurnEvent::Answered(turn.turned)];
     let place = before.place_of(turn.timestamp).expect("the change is held");
     let first = before.status(place) == Status::New;
-    let old: BTreeMap<u16, i32> = pairs(before.write_list(place));
-    let new: BTreeMap<u16, i32> = pairs(after.write_list(place));
+    let (had_written, writes) = (before.writes[place] > 0, after.writes[place] > 0);
     match turn.turned {
         Turned::Ran => {
             let faulted = faults(after, place);
@@ -62,66 +86,219 @@ pub fn events(before: &Tables, after: &Tables, turn: Turn) -> Vec<TurnEvent> {
             if faulted && after.reads[place] > 0 {
                 events.push(TurnEvent::Faulted);
             }
-            if !first && old.is_empty() && !new.is_empty() {
+            if !first && !had_written && writes {
                 events.push(TurnEvent::WritesSecondTime);
             }
-            if faulted && !old.is_empty() {
+            if faulted && had_written {
                 events.push(TurnEvent::FaultsSecondTime);
             }
         }
         Turned::Cleared if first => events.push(TurnEvent::ClearedNew),
-        Turned::Cleared if !old.is_empty() => events.push(TurnEvent::ClearedWriter),
+        Turned::Cleared if had_written => events.push(TurnEvent::ClearedWriter),
         Turned::Cleared | Turned::Stood => {}
     }
-    if turn.turned != Turned::Stood {
-        let settings: BTreeSet<u16> = old.keys().chain(new.keys()).copied().collect();
-        for setting in settings {
-            let values = (old.get(&setting).copied(), new.get(&setting).copied());
-            setting_events(&mut events, before, after, turn.timestamp, setting, values);
-        }
+    for touched in touched(before, after, turn) {
+        touched.events(&mut events, before, after);
     }
     events
 }
 
-/// What came of a setting that the change wrote or writes, with these values.
-fn setting_events(
-    events: &mut Vec<TurnEvent>,
-    before: &Tables,
-    after: &Tables,
-    timestamp: u64,
+/// A setting that the change of a turn had written or writes.
+struct Touched<'a> {
     setting: u16,
-    values: (Option<i32>, Option<i32>),
-) {
-    let previous = previous_value(before, timestamp, setting);
-    let (event, changed) = match values {
-        (None, Some(new)) if new == previous => (TurnEvent::AddedEqual, false),
-        (None, _) => (TurnEvent::Added, true),
-        (Some(old), None) if old == previous => (TurnEvent::RemovedEqual, false),
-        (Some(_), None) => (TurnEvent::Removed, true),
-        (Some(old), Some(new)) if old == new => (TurnEvent::RewrittenEqual, false),
-        (Some(_), Some(_)) => (TurnEvent::Rewritten, true),
-    };
-    events.push(event);
-    if !changed {
-        return;
+    /// What the change had written, and what it writes.
+    written: [Option<i32>; 2],
+    /// The value as of its timestamp.
+    previous: i32,
+    /// The places of later changes by rising timestamp, up to and including the next writer, and
+    /// beyond it.
+    within: &'a [u16],
+    beyond: &'a [u16],
+    /// The place of the next writer.
+    next_writer: Option<usize>,
+}
+
+/// All of them. A turn whose change stands has none.
+fn touched<'a>(before: &'a Tables, after: &Tables, turn: Turn) -> Vec<Touched<'a>> {
+    if turn.turned == Turned::Stood {
+        return Vec::new();
     }
-    let later = || (0..before.held_count()).filter(|&place| before.timestamps[place] > timestamp);
-    let writes = |place: usize| before.write_list(place).any(|w| w.setting == setting);
-    let valid = |place: usize| before.status(place) == Status::Valid;
-    for place in later().filter(|&place| valid(place)) {
-        if before.read_list(place).any(|read| read.setting == setting) {
-            match after.status(place) {
-                Status::Invalid if writes(place) => events.push(TurnEvent::MarkedWriter),
-                Status::Invalid => events.push(TurnEvent::Marked),
-                _ => events.push(TurnEvent::NextWriterStops),
+    let place = before.place_of(turn.timestamp).expect("the change is held");
+    let written = [before, after].map(|tables| pairs(tables.write_list(place)));
+    let order = &before.order[..before.held_count()];
+    let rank = order.iter().position(|&other| usize::from(other) == place);
+    let later = &order[rank.expect("the place is in the order") + 1..];
+    let settings: BTreeSet<u16> = written
+        .iter()
+        .flat_map(|list| list.keys().copied())
+        .collect();
+    let touched = settings.into_iter().map(|setting| {
+        let mut places = later.iter().map(|&place| usize::from(place));
+        let writer = places.position(|place| names(before.write_list(place), setting));
+        let (within, beyond) = later.split_at(writer.map_or(later.len(), |index| index + 1));
+        Touched {
+            setting,
+            written: written.each_ref().map(|list| list.get(&setting).copied()),
+            previous: previous_value(before, turn.timestamp, setting),
+            within,
+            beyond,
+            next_writer: writer.map(|index| usize::from(later[index])),
+        }
+    });
+    touched.collect()
+}
+
+impl Touched<'_> {
+    /// The values of the setting above the change, before the turn and after it.
+    fn values(&self) -> [i32; 2] {
+        self.written.map(|value| value.unwrap_or(self.previous))
+    }
+
+    fn changed(&self) -> bool {
+        let [old, new] = self.values();
+        old != new
+    }
+
+    fn events(&self, events: &mut Vec<TurnEvent>, before: &Tables, after: &Tables) {
+        let changed = self.changed();
+        events.push(match (self.written, changed) {
+            ([None, _], true) => TurnEvent::Added,
+            ([None, _], false) => TurnEvent::AddedEqual,
+            ([Some(_), None], true) => TurnEvent::Removed,
+            ([Some(_), None], false) => TurnEvent::RemovedEqual,
+            ([Some(_), Some(_)], true) => TurnEvent::Rewritten,
+            ([Some(_), Some(_)], false) => TurnEvent::RewrittenEqual,
+        });
+        let last = previous_value(after, INFINITY, self.setting);
+        let wrong_view = after.view[usize::from(self.setting)] != last;
+        if !changed {
+            if wrong_view && self.next_writer.is_none() {
+                events.push(TurnEvent::WrongViewOfUnchanged);
+            }
+            return;
+        }
+        // The Valid readers among these places that the turn leaves with this status.
+        let readers = |places: &[u16], left: Status| {
+            let places = places.iter().map(|&place| usize::from(place));
+            let readers = places.filter(|&place| {
+                before.status(place) == Status::Valid
+                    && names(before.read_list(place), self.setting)
+                    && after.status(place) == left
+            });
+            readers.collect::<Vec<_>>()
+        };
+        for place in readers(self.within, Status::Invalid) {
+            events.push(match Some(place) == self.next_writer {
+                true => TurnEvent::MarkedWriter,
+                false => TurnEvent::Marked,
+            });
+            if before.withdrawn[place] == 1 && before.writes[place] > 0 {
+                events.push(TurnEvent::MarkedWithdrawn);
+            }
+        }
+        if let Some(writer) = self.next_writer {
+            for _ in readers(self.beyond, Status::Valid) {
+                events.push(TurnEvent::NextWriterStops);
+                if before.status(writer) == Status::Invalid {
+                    events.push(TurnEvent::InvalidWriterStops);
+                }
+                if before.withdrawn[writer] == 1 {
+                    events.push(TurnEvent::WithdrawnWriterStops);
+                }
+            }
+        }
+        events.push(match self.written[1] {
+            _ if self.next_writer.is_some() => TurnEvent::ViewOfLaterWriter,
+            Some(_) => TurnEvent::ViewWritten,
+            None => TurnEvent::ViewOnRemoval,
+        });
+        if wrong_view && self.next_writer.is_some() {
+            events.push(TurnEvent::WrongViewOfLaterWriter);
+        }
+    }
+}
+
+/// The turns of a drain so far.
+#[derive(Default)]
+pub struct Drain {
+    /// The changes that had a turn, those that turns marked, and of these those whose seen value a
+    /// New change gave back, by timestamp.
+    turned: BTreeSet<u64>,
+    marked: BTreeSet<u64>,
+    restored: BTreeSet<u64>,
+    /// The timestamp where the last marking by each changed setting ended.
+    ends: BTreeMap<u16, u64>,
+}
+
+impl Drain {
+    /// What comes of this turn, which altered the tables so, and the earlier ones.
+    pub fn events(&mut self, before: &Tables, after: &Tables, turn: Turn) -> Vec<DrainEvent> {
+        let mut events = Vec::new();
+        let place = before.place_of(turn.timestamp).expect("the change is held");
+        if turn.turned == Turned::Stood && self.restored.contains(&turn.timestamp) {
+            events.push(DrainEvent::StoodRestored);
+        }
+        for touched in touched(before, after, turn) {
+            if !touched.changed() {
+                continue;
+            }
+            if before.status(place) == Status::New {
+                self.restore(before, &touched);
+            }
+            let next_writer = touched.next_writer;
+            let end = next_writer.map_or(INFINITY, |place| before.timestamps[place]);
+            if let Some(earlier) = self.ends.insert(touched.setting, end) {
+                events.push(match turn.timestamp < earlier {
+                    true => DrainEvent::ChangedWithin,
+                    false => DrainEvent::ChangedBeyond,
+                });
+            }
+        }
+        self.turned.insert(turn.timestamp);
+        let marked = (0..before.held_count()).filter(|&place| {
+            before.status(place) == Status::Valid && after.status(place) == Status::Invalid
+        });
+        self.marked
+            .extend(marked.map(|place| before.timestamps[place]));
+        events
+    }
+
+    /// Notes the changes that earlier turns marked by this setting and that saw what it is now and
+    /// was not.
+    fn restore(&mut self, before: &Tables, touched: &Touched) {
+        let Some(&end) = self.ends.get(&touched.setting) else {
+            return;
+        };
+        let [old, new] = touched.values();
+        for &place in touched.within {
+            let place = usize::from(place);
+            let timestamp = before.timestamps[place];
+            let mut reads = before.read_list(place);
+            let read = reads.find(|read| read.setting == touched.setting);
+            let restored = read.is_some_and(|read| read.value == new && read.value != old);
+            if restored && timestamp <= end && self.marked.contains(&timestamp) {
+                self.restored.insert(timestamp);
             }
         }
     }
-    events.push(match values.1 {
-        _ if later().any(writes) => TurnEvent::ViewOfLaterWriter,
-        Some(_) => TurnEvent::ViewWritten,
-        None => TurnEvent::ViewOnRemoval,
-    });
+
+    /// What the drain, which is at its end, left as it was.
+    pub fn left(&self, after: &Tables) -> Vec<DrainEvent> {
+        let mut events = Vec::new();
+        let mut values = [0; SETTINGS];
+        for &place in &after.order[..after.held_count()] {
+            let place = usize::from(place);
+            let mut reads = after.read_list(place);
+            let wrong = reads.any(|read| read.value != values[usize::from(read.setting)]);
+            if wrong && !self.turned.contains(&after.timestamps[place]) {
+                events.push(DrainEvent::WrongSeenStays);
+            }
+            for write in after.write_list(place) {
+                values[usize::from(write.setting)] = write.value;
+            }
+        }
+        events
+    }
 }
 
 /// The value of a setting as of a timestamp.
@@ -146,6 +323,10 @@ fn faults(tables: &Tables, place: usize) -> bool {
     }
     let outcome = program::run(tables.program(place), &settings);
     outcome.fault().is_some()
+}
+
+fn names(mut list: impl Iterator<Item = Access>, setting: u16) -> bool {
+    list.any(|entry| entry.setting == setting)
 }
 
 fn pairs(list: impl Iterator<Item = Access>) -> BTreeMap<u16, i32> {

@@ -2,16 +2,17 @@
 //! calls need not reach.
 
 use comparison::both::Both;
-use comparison::generate::scripts::Source;
+use comparison::generate::scripts::{Shape, Source};
 use comparison::generate::tables as random_tables;
 use comparison::generate::{self, packages, Random};
+use comparison::proved::calls as proved;
 use comparison::reached::Reached;
-use comparison::seeds::count_reached;
-use comparison::turns::{self, TurnEvent};
+use comparison::seeds::{count_reached, with_seeds};
+use comparison::turns::{self, DrainEvent, TurnEvent};
 use outside::checker::{Totals, Turned};
 use outside::intake::Taken;
 use outside::package::ANSWERS;
-use outside::tables::{in_form, INFINITY};
+use outside::tables::{in_form, INFINITY, LIST_ENTRIES, MAX_CAPACITY};
 
 /// How many tables with lists unrelated to their programs are drained.
 const TABLES: usize = 6_000;
@@ -19,10 +20,15 @@ const TABLES: usize = 6_000;
 /// How many of them are of any settings and values.
 const ANY_VALUES: usize = 1_500;
 
+/// How many larger ones are drained, and how many of the highest capacity.
+const LARGER: usize = 120;
+const LARGEST: usize = 3;
+
 /// What the tests with any tables are to reach.
 #[derive(Clone, Copy, Debug, PartialEq, Eq, PartialOrd, Ord)]
 enum Event {
     Turn(TurnEvent),
+    Drain(DrainEvent),
     /// Tables with a change whose turn is to come, and without.
     Waiting,
     Idle,
@@ -34,11 +40,25 @@ enum Event {
     PackageRefused(u8),
 }
 
+/// What a drain that is not made of single turns may well miss.
+const SUBTLE: [Event; 9] = [
+    Event::Drain(DrainEvent::StoodRestored),
+    Event::Drain(DrainEvent::ChangedWithin),
+    Event::Drain(DrainEvent::ChangedBeyond),
+    Event::Drain(DrainEvent::WrongSeenStays),
+    Event::Turn(TurnEvent::InvalidWriterStops),
+    Event::Turn(TurnEvent::WithdrawnWriterStops),
+    Event::Turn(TurnEvent::MarkedWithdrawn),
+    Event::Turn(TurnEvent::WrongViewOfLaterWriter),
+    Event::Turn(TurnEvent::WrongViewOfUnchanged),
+];
+
 /// Makes turns until one is idle, and a drain on the tables as they were, which must do the same.
 fn drain(both: Both, reached: &mut Reached<Event>) {
     let mut drained = both.clone();
     let mut single = both;
     let mut totals = Totals::default();
+    let mut turns = turns::Drain::default();
     loop {
         let before = single.tables().clone();
         let Some(turn) = single.turn().expect("the tables are in form") else {
@@ -48,6 +68,12 @@ fn drain(both: Both, reached: &mut Reached<Event>) {
         for event in turns::events(&before, single.tables(), turn) {
             reached.count(Event::Turn(event));
         }
+        for event in turns.events(&before, single.tables(), turn) {
+            reached.count(Event::Drain(event));
+        }
+    }
+    for event in turns.left(single.tables()) {
+        reached.count(Event::Drain(event));
     }
     let turned = totals.ran + totals.stood + totals.cleared;
     reached.count(match turned {
@@ -66,10 +92,15 @@ fn drain(both: Both, reached: &mut Reached<Event>) {
 
 /// Tables of few settings and values, so that many seen values hold.
 fn interfering_tables(random: &mut Random) -> (Source, Both) {
-    let n = 2 + random.below(9);
+    let n = 2 + random.below(15);
     let held = random_tables::held_count(random, n);
     let source = Source::new(random, n);
-    let tables = source.tables(random, n, held);
+    let shape = Shape {
+        waiting: random.pick(&[2, 4]),
+        settled: random.below(2) == 0,
+        ..Shape::SMALL
+    };
+    let tables = source.tables_of(random, n, held, &shape);
     assert!(in_form(n, &tables));
     (source, Both::new(n, tables))
 }
@@ -109,6 +140,78 @@ fn turns_and_drains_leave_the_same_tables() {
     ] {
         reached.assert_at_least(TABLES / 20, event);
     }
+    for event in SUBTLE {
+        reached.assert_at_least(TABLES / 300, event);
+    }
+}
+
+#[test]
+fn turns_and_drains_of_larger_tables_leave_the_same_tables() {
+    let reached = count_reached(LARGER, |random, _, reached| {
+        let n = random.pick(&[64, 100, 200, 300]);
+        let held = n - random.below(3);
+        let settings = random.pick(&[16, 64, 1_024]);
+        let shape = Shape {
+            waiting: random.pick(&[2, 8, 50]),
+            blocks: random.pick(&[1, 3, 8]),
+            longest: random.pick(&[2, 4, 16, LIST_ENTRIES]),
+            settled: true,
+        };
+        let source = Source::naming(random, n, settings);
+        let tables = source.tables_of(random, n, held, &shape);
+        drain(Both::new(n, tables), reached);
+    });
+    for event in SUBTLE {
+        reached.assert_at_least(LARGER / 4, event);
+    }
+}
+
+#[test]
+fn turns_and_drains_at_the_highest_capacity_leave_the_same_tables() {
+    let reached = count_reached(LARGEST, |random, _, reached| {
+        let n = MAX_CAPACITY;
+        // Few readers between two writers of a setting, so that not all changes run again.
+        let shape = Shape {
+            waiting: 50,
+            blocks: 1,
+            longest: 2,
+            settled: true,
+        };
+        let source = Source::naming(random, n, 1_024);
+        let tables = source.tables_of(random, n, n, &shape);
+        drain(Both::new(n, tables), reached);
+    });
+    for event in [TurnEvent::RanFirst, TurnEvent::RanAgain, TurnEvent::Marked] {
+        reached.assert_at_least(10 * LARGEST, Event::Turn(event));
+    }
+}
+
+/// Here only the proved library makes single turns: each of the outside implementation's looks at
+/// all tables.
+#[test]
+fn a_drain_of_thousands_of_turns_leaves_the_same_tables() {
+    with_seeds(|random, _| {
+        let n = MAX_CAPACITY;
+        let source = Source::naming(random, n, 1_024);
+        let shape = Shape {
+            settled: true,
+            ..Shape::SMALL
+        };
+        let tables = source.tables_of(random, n, n, &shape);
+        let mut single = proved::lend(&tables);
+        let mut totals = Totals::default();
+        while let Some(turn) = proved::turn(n, &mut single).expect("the tables are in form") {
+            totals.count(turn.turned);
+        }
+        println!("{totals:?}");
+        assert!(totals.ran > 1_000);
+        let mut drained = Both::new(n, tables);
+        assert_eq!(drained.drain(), Ok(totals));
+        assert!(
+            *drained.proved_tables() == single,
+            "a drain's turns are single turns"
+        );
+    });
 }
 
 #[test]

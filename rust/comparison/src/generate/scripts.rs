@@ -3,7 +3,7 @@
 use super::packages::{self, lay_out, Breach};
 use super::{damage, tables, Random, Settings, EXTREMES};
 use outside::package::{Entry, ANSWERS};
-use outside::program::{op, Instruction, INSTRUCTION_BYTES, MAX_INSTRUCTIONS, SETTINGS};
+use outside::program::{op, Access, Instruction, INSTRUCTION_BYTES, MAX_INSTRUCTIONS, SETTINGS};
 use outside::tables::{Status, Tables, INFINITY, LIST_ENTRIES, PROGRAM_BYTES};
 use std::collections::HashSet;
 
@@ -34,10 +34,43 @@ pub struct Source {
     sent: Vec<(u64, Vec<u8>)>,
 }
 
+/// The most blocks of a program that calls bring.
+const MOST_BLOCKS: usize = 3;
+
+/// How changes of tables are made of a source.
+#[derive(Clone, Copy, Debug)]
+pub struct Shape {
+    /// One in so many changes is New or Invalid.
+    pub waiting: usize,
+    /// The most parts of a program that read or write.
+    pub blocks: usize,
+    /// The most entries of a list.
+    pub longest: usize,
+    /// Whether most Valid changes and some Invalid ones saw the values as of their timestamps, most
+    /// New ones write what the last Invalid change below wrote, and half of the view is what the
+    /// last writers wrote.
+    pub settled: bool,
+}
+
+impl Shape {
+    /// Of small tables.
+    pub const SMALL: Self = Self {
+        waiting: 2,
+        blocks: MOST_BLOCKS,
+        longest: 4,
+        settled: false,
+    };
+}
+
 impl Source {
     /// A source of calls for tables of capacity `n`.
     pub fn new(random: &mut Random, n: usize) -> Self {
         let count = 4 + random.below(3) * random.below(3);
+        Self::naming(random, n, count)
+    }
+
+    /// The same, with changes that name so many settings.
+    pub fn naming(random: &mut Random, n: usize, count: usize) -> Self {
         let settings = match random.below(2) {
             // Small values name these settings.
             0 => Settings {
@@ -187,13 +220,22 @@ impl Source {
 
     /// A well formed program.
     pub fn program(&self, random: &mut Random) -> Vec<u8> {
+        self.program_of(random, MOST_BLOCKS)
+    }
+
+    /// A well formed program of at most so many blocks.
+    fn program_of(&self, random: &mut Random, most: usize) -> Vec<u8> {
         let mut program: Vec<Instruction> = Vec::new();
         let blocks = match random.below(16) {
             0 => 0,
-            _ => 1 + random.below(3),
+            _ => 1 + random.below(most),
         };
         for _ in 0..blocks {
             let block = self.block(random);
+            // With what may come before the block.
+            if program.len() + 2 + block.len() > MAX_INSTRUCTIONS {
+                break;
+            }
             let n = block.len() as i32;
             match random.below(24) {
                 // The block is carried out or not, as a setting says.
@@ -272,21 +314,27 @@ impl Source {
         }
     }
 
-    /// Tables in form that hold so many changes, with programs and lists made of this. Calls need
-    /// not reach them: nothing ties a change's lists to its program, or the view to the lists.
+    /// Small tables in form that hold so many changes, with programs and lists made of this. Calls
+    /// need not reach them: nothing ties a change's lists to its program, or the view to the lists.
     pub fn tables(&self, random: &mut Random, n: usize, held: usize) -> Tables {
+        self.tables_of(random, n, held, &Shape::SMALL)
+    }
+
+    /// The same, of another shape.
+    pub fn tables_of(&self, random: &mut Random, n: usize, held: usize, shape: &Shape) -> Tables {
         let mut tables = tables::in_form(random, n, held);
         for place in 0..held {
-            tables.status[place] = random.pick(&[0, 1, 1, 1, 2, 2]);
+            tables.status[place] = match random.below(3 * shape.waiting) {
+                0 => 0,
+                1 | 2 => 2,
+                _ => 1,
+            };
             tables.withdrawn[place] = random.pick(&[0, 0, 0, 0, 1]);
-            let program = self.program(random);
-            tables.lengths[place] = (program.len() / INSTRUCTION_BYTES) as u16;
-            let bytes = &mut tables.programs[PROGRAM_BYTES * place..][..PROGRAM_BYTES];
-            bytes.fill(0);
-            bytes[..program.len()].copy_from_slice(&program);
+            let program = self.program_of(random, shape.blocks);
+            put_program(&mut tables, place, &program);
             let longest = match tables.status[place] {
                 0 => 0,
-                _ => 4,
+                _ => shape.longest,
             };
             let slots = LIST_ENTRIES * place..LIST_ENTRIES * (place + 1);
             let (settings, values) = (&mut tables.sources, &mut tables.seen);
@@ -298,6 +346,9 @@ impl Source {
         }
         for value in &mut tables.view {
             *value = random.below(3) as i32;
+        }
+        if shape.settled {
+            settle(random, &mut tables);
         }
         tables
     }
@@ -323,6 +374,57 @@ impl Source {
         }
         count as u16
     }
+}
+
+/// Ties changes and the view to the write lists, as [`Shape::settled`] says.
+fn settle(random: &mut Random, tables: &mut Tables) {
+    let mut values = [0; SETTINGS];
+    let mut last_invalid = Vec::new();
+    for rank in 0..tables.held_count() {
+        let place = usize::from(tables.order[rank]);
+        let status = tables.status(place);
+        let slots = LIST_ENTRIES * place..;
+        let sources = &tables.sources[slots.clone()][..usize::from(tables.reads[place])];
+        let seen = tables.seen[slots].iter_mut().zip(sources);
+        match (status, random.below(4)) {
+            (Status::New, 1..) => put_program(tables, place, &writing(&last_invalid)),
+            (Status::Valid, 1..) | (Status::Invalid, 0) => {
+                seen.for_each(|(seen, &setting)| *seen = values[usize::from(setting)]);
+            }
+            _ => {}
+        }
+        let writes: Vec<Access> = tables.write_list(place).collect();
+        for write in &writes {
+            values[usize::from(write.setting)] = write.value;
+        }
+        if status == Status::Invalid {
+            last_invalid = writes;
+        }
+    }
+    for (entry, value) in tables.view.iter_mut().zip(values) {
+        if random.below(2) == 0 {
+            *entry = value;
+        }
+    }
+}
+
+/// A program that writes these entries, or as many as it can.
+fn writing(list: &[Access]) -> Vec<u8> {
+    let instructions = list.iter().take(MAX_INSTRUCTIONS / 2).flat_map(|entry| {
+        [
+            with_number(op::CONSTANT, 0, entry.value),
+            with_number(op::WRITE, 0, entry.setting.into()),
+        ]
+    });
+    instructions.flat_map(|i| i.to_bytes()).collect()
+}
+
+/// Replaces the program at a place.
+fn put_program(tables: &mut Tables, place: usize, program: &[u8]) {
+    tables.lengths[place] = (program.len() / INSTRUCTION_BYTES) as u16;
+    let bytes = &mut tables.programs[PROGRAM_BYTES * place..][..PROGRAM_BYTES];
+    bytes.fill(0);
+    bytes[..program.len()].copy_from_slice(program);
 }
 
 /// An instruction with a register and a number.

@@ -6,17 +6,19 @@
 //! cargo run --release --offline --bin bench -- calls
 //! ```
 //!
-//! The sections are `calls`, `late`, `form` and `programs`; `docs/PERFORMANCE.md` says what they
-//! show.
+//! The sections are `calls`, `turns`, `drains`, `form` and `programs`; `docs/PERFORMANCE.md` says
+//! what they show.
 
 mod calls;
+mod drains;
 mod form;
 mod history;
-mod late;
 mod measure;
 mod programs;
+mod rows;
 mod tables;
 mod timing;
+mod turns;
 
 use comparison::generate::Random;
 use comparison::seeds;
@@ -26,9 +28,10 @@ use std::process::ExitCode;
 /// A section's name, and what prints it.
 type Section = (&'static str, fn(&mut Random));
 
-const SECTIONS: [Section; 4] = [
+const SECTIONS: [Section; 5] = [
     ("calls", calls::print),
-    ("late", late::print),
+    ("turns", turns::print),
+    ("drains", drains::print),
     ("form", form::print),
     ("programs", programs::print),
 ];
@@ -37,7 +40,7 @@ fn main() -> ExitCode {
     let names: Vec<String> = env::args().skip(1).collect();
     let known = |name: &String| SECTIONS.iter().any(|(section, _)| section == name);
     if !names.iter().all(known) {
-        eprintln!("usage: bench [calls] [late] [form] [programs]");
+        eprintln!("usage: bench [calls] [turns] [drains] [form] [programs]");
         return ExitCode::FAILURE;
     }
     if cfg!(debug_assertions) {
