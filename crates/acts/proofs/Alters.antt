@@ -10,8 +10,8 @@ use Rattle.machine.specs.Settings.{Environment, Entry, carry, entries}
 use Rattle.model.specs.History.{Lists}
 use Rattle.model.specs.Tables.{settingsOf}
 use Rattle.model.proofs.Entries.{settings-entries}
-use Rattle.search.specs.Searches.{WriteLists}
-use Rattle.values.specs.Values.{OfSettings, AllKnown, Looked, Collected}
+use Rattle.search.specs.Searches.{OfSettings, WriteLists}
+use Rattle.values.specs.Values.{AllKnown, Looked, Collected}
 use Rattle.values.proofs.Replaced.{Replacing, all-kept, replacing, collected-settings, collected-differs, collected-new}
 use Rattle.values.proofs.Parts.{part, part-length, part-settings, same-part, first-part, first-same}
 use Rattle.acts.specs.Altered.{BothWrites, Alterable, Altered}

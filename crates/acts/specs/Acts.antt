@@ -11,7 +11,7 @@ use Rattle.machine.specs.Run.{Outcome}
 use Rattle.run_record.specs.declared.Run.{Run}
 use Rattle.run_record.specs.Record.{Lists, Sized, Ran}
 use Rattle.model.specs.Tables.{slots, programIn}
-use Rattle.values.specs.Values.{OfSettings}
+use Rattle.search.specs.Searches.{OfSettings}
 use Rattle.acts.specs.declared.Act.{Act}
 use Rattle.acts.specs.declared.Act.the-variants as act
 

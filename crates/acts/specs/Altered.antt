@@ -9,7 +9,8 @@ use Rattle.machine.specs.Settings.{settingCount, Environment, Entry, valueIn, n
 use Rattle.model.specs.History.{eqZ}
 use Rattle.model.specs.Form.{holds}
 use Rattle.model.specs.Tables.{slots}
-use Rattle.values.specs.Values.{OfSettings, IsKnown, Sizes}
+use Rattle.search.specs.Searches.{OfSettings}
+use Rattle.values.specs.Values.{IsKnown, Sizes}
 use Rattle.acts.specs.Acts.{Positioned}
 
 -- the settings and the values of the old and of the new writes, each at most 32

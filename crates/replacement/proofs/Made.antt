@@ -10,7 +10,7 @@ use Rattle.machine.specs.Run.{Outcome, run}
 use Rattle.machine.proofs.Lists.{run-bounded}
 use Rattle.run_record.specs.declared.Run.{Run}
 use Rattle.run_record.specs.Record as record-of
-use Rattle.values.specs.Values.{OfSettings}
+use Rattle.search.specs.Searches.{OfSettings}
 use Rattle.values.proofs.Model.{new-settings}
 use Rattle.acts.specs.declared.Act.{Act}
 use Rattle.acts.specs.declared.Act.the-variants as act

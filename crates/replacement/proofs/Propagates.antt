@@ -7,7 +7,8 @@ use lib.IntN.{ℤ}
 use lib.ListN.{length, take, drop}
 use Rattle.machine.specs.Settings.{settingCount, Environment, Entry}
 use Rattle.model.specs.History.{Lists}
-use Rattle.values.specs.Values.{OfSettings, restored}
+use Rattle.search.specs.Searches.{OfSettings}
+use Rattle.values.specs.Values.{restored}
 use Rattle.values.proofs.Parts.{first-part}
 use Rattle.values.proofs.Replaced.{Replacing, restored-known}
 use Rattle.marking.specs.Marks.{Columns, AllSettings, markedSettings, followed}

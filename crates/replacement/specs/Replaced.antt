@@ -12,7 +12,8 @@ use Rattle.run_record.specs.Record as record-of
 use Rattle.model.specs.History.{eqZ}
 use Rattle.model.specs.Form.{holds}
 use Rattle.model.specs.Tables.{slots, listIn, programIn}
-use Rattle.values.specs.Values.{valuesBelow, OfSettings, Known, Lookable}
+use Rattle.search.specs.Searches.{OfSettings}
+use Rattle.values.specs.Values.{valuesBelow, Known, Lookable}
 use Rattle.marking.specs.Marks.{Columns, AllSettings, markedSettings, followed}
 use Rattle.marking.specs.Uses.{Settled, Markable}
 use Rattle.storing.specs.Stored.{NewLists, newLists, ListsStorable, ListsPut}

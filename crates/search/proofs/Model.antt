@@ -1,6 +1,6 @@
 -- The searches in tables that are in form, as questions to the history that the tables hold.
 use mathlib.Core.Path.{_≡_, refl, sym, ap, subst, _∙_}
-use mathlib.Core.Bool.{_&&_}
+use mathlib.Core.Bool.{true, not, _&&_}
 use mathlib.Core.List.{List, [], _∷_}
 use mathlib.Core.Option.{Option, none, some}
 use Prim.Native.Nat.{ℕ, zero, suc, _≤_, _<_}
@@ -9,19 +9,19 @@ use borrow.Author.Tests.{ltb-true, ltb-false, lt-ltb, eqb-true, eq-eqb}
 use lib.Dec.{eqb, ltb}
 use lib.IntN.{ℤ}
 use lib.ListN.{length, getD, take, drop, drop-of-length-le}
-use Rattle.machine.specs.Settings.{Environment, Entry, _orIf_, _orElse_, lookup}
+use Rattle.machine.specs.Settings.{settingCount, Environment, Entry, _orIf_, _orElse_, lookup}
 use Rattle.machine.proofs.Cases.{by-test, true-is-not-false, both}
 use Rattle.machine.proofs.Settings.{or-if-else}
 use Rattle.model.specs.History.{Change, timestamp, lists, History, afterAll, asOf}
 use Rattle.model.specs.Cabinet.{blank, historyOf, find}
 use Rattle.model.specs.Tables.{Tables, heldCount, writesAt, decode, listIn}
-use Rattle.model.specs.Form.{timestampOf, Formed}
+use Rattle.model.specs.Form.{holds, distinctSettings, timestampOf, Formed}
 use Rattle.model.specs.Sound.{AllSound}
 use Rattle.model.proofs.Figure.{NoneBelow}
 use Rattle.model.proofs.Order.{changesAt-length, changesAt-get}
 use Rattle.model.proofs.Tables.{held-count, timestamp-at, order-at, writes-at, writes-back}
 use Rattle.model.proofs.Form.{facts}
-use Rattle.search.specs.Searches.{PlacesWithin, WriteLists, rankOf, positionOf, previousWrite}
+use Rattle.search.specs.Searches.{PlacesWithin, WriteLists, OfSettings, rankOf, positionOf, previousWrite}
 use Rattle.search.proofs.Steps.{rank-within}
 use Rattle.search.proofs.Split.{Split, below-up-to, none-below-from, find-here, find-nowhere, after-next, split-as-of}
 
@@ -29,6 +29,15 @@ short-writes : (changes : List Change) (i : ℕ) → AllSound changes → length
 short-writes [] i a = omega arith
 short-writes (c ∷ changes) zero a = a .0 .writes .short
 short-writes (c ∷ changes) (suc i) a = short-writes changes i (a .1)
+
+-- a place's settings that the test of form has passed
+pub tested-settings : (l : List ℕ) → distinctSettings l ≡ true → OfSettings l
+tested-settings l e = record { below = go l e }
+  where
+    go : (l : List ℕ) → distinctSettings l ≡ true → (i : ℕ) → i < length l → getD l i 0 < settingCount
+    go [] e i h = absurd (omega arith)
+    go (s ∷ l) e zero h = ltb-true s settingCount (both (ltb s settingCount) e .0)
+    go (s ∷ l) e (suc i) h = go l (both (not (holds s l)) (both (ltb s settingCount) e .1) .1) i (omega arith)
 
 -- ---- the searches in some tables
 

@@ -7,7 +7,7 @@ use Prim.Native.Nat.{ℕ, zero, suc, _*_, _<_, _≤_}
 use lib.Dec.{eqb, ltb}
 use lib.IntN.{ℤ}
 use lib.ListN.{length, getD}
-use Rattle.machine.specs.Settings.{_orIf_, lookup}
+use Rattle.machine.specs.Settings.{settingCount, _orIf_, lookup}
 use Rattle.model.specs.Form.{timestampOf}
 use Rattle.model.specs.Tables.{Tables, heldCount, listIn}
 use Rattle.search.specs.declared.Found.{Found}
@@ -26,6 +26,10 @@ pub record WriteLists (writes targets : List ℕ) (written : List ℤ) : Type 0 
   pub target-slots : length targets ≡ 32 * length writes
   pub value-slots : length written ≡ 32 * length writes
   pub short : (i : ℕ) → getD writes i 0 ≤ 32
+
+-- each of a list is a setting
+pub record OfSettings (settings : List ℕ) : Type 0 where
+  pub below : (i : ℕ) → i < length settings → getD settings i 0 < settingCount
 
 -- how many of the first changes of the order list are stamped below t, counted down from the highest
 unfoldable pub rankOf : List ℕ → List ℕ → ℕ → ℕ → ℕ

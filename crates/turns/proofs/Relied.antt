@@ -8,11 +8,10 @@ use lib.ListN.{length, getD}
 use Rattle.model.specs.Tables.{Tables, heldCount, slots}
 use Rattle.model.specs.Form.{Formed}
 use Rattle.model.proofs.Form.{facts}
-use Rattle.search.specs.Searches.{WriteLists}
-use Rattle.search.proofs.Model.{placed-writes, listed}
-use Rattle.values.specs.Values.{valuesBelow, OfSettings, Known, Lookable}
+use Rattle.search.specs.Searches.{OfSettings, WriteLists}
+use Rattle.search.proofs.Model.{tested-settings, placed-writes, listed}
+use Rattle.values.specs.Values.{valuesBelow, Known, Lookable}
 use Rattle.values.proofs.Model.{program-formed}
-use Rattle.values.proofs.Parts.{tested-settings}
 use Rattle.acts.specs.Acts.{Positioned, Decidable, Runnable}
 use Rattle.storing.specs.Stored.{NewLists, ListStorable, ListsStorable}
 use Rattle.marking.specs.Marks.{columnsOf}

@@ -16,9 +16,9 @@ use Rattle.model.specs.declared.Turned.the-variants as turn-answer
 use Rattle.model.specs.Tables.{Tables, heldCount, slots, listIn}
 use Rattle.model.specs.Calls.{reply}
 use Rattle.model.specs.Form.{Formed}
-use Rattle.search.specs.Searches.{WriteLists, isWaiting, waitingIn}
+use Rattle.search.specs.Searches.{OfSettings, WriteLists, isWaiting, waitingIn}
 use Rattle.search.proofs.First.{some-first}
-use Rattle.values.specs.Values.{valuesBelow, OfSettings, Known, Lookable, Looked, Carried}
+use Rattle.values.specs.Values.{valuesBelow, Known, Lookable, Looked, Carried}
 use Rattle.values.proofs.Known.{none-known, known-next}
 use Rattle.marking.specs.Marks.{Columns, columnsOf}
 use Rattle.marking.specs.Uses.{Uses, Noted, Notable, UsesNoted}

@@ -157,25 +157,3 @@ pub known-next :
     Known (valuesBelow order writes targets written (suc k)) known before' after'
 known-next order writes targets written k {known} {before} {after₀} {before'} {after'} h c =
     subst (λ (env : Environment). Known env known before' after') (sym (values-next order writes targets written k)) (known-carried h c)
-
--- after a change that was replaced: its new writes are in the lists as they are now, and the lists below it are as they were
-module _ (order writes targets : List ℕ) (written : List ℤ) (writes' targets' : List ℕ) (written' : List ℤ) where
-  abbrev SameBelow : ℕ → Type 0
-  SameBelow k = (j : ℕ) → j < k → listIn writes' targets' written' (getD order j 0) ≡ listIn writes targets written (getD order j 0)
-
-  values-same : (k : ℕ) → SameBelow k → valuesBelow order writes' targets' written' k ≡ valuesBelow order writes targets written k
-  values-same zero h = values-first order writes' targets' written' ∙ sym (values-first order writes targets written)
-  values-same (suc k) h =
-      values-next order writes' targets' written' k
-      ∙ ap₂ (λ (w : List Entry) (env : Environment). after w env) (h k (omega arith)) (values-same k (λ j l. h j (omega arith)))
-      ∙ sym (values-next order writes targets written k)
-
-  pub known-above :
-      (k : ℕ) {new : List Entry} {known : List ℕ} {before after' : List ℤ} →
-      SameBelow k →
-      listIn writes' targets' written' (getD order k 0) ≡ new →
-      Known (after new (valuesBelow order writes targets written k)) known before after' →
-      Known (valuesBelow order writes' targets' written' (suc k)) known before after'
-  known-above k {new} {known} {before} {after'} h e =
-      subst (λ (env : Environment). Known env known before after')
-      (sym (values-next order writes' targets' written' k ∙ ap₂ (λ (w : List Entry) (env : Environment). after w env) e (values-same k h)))

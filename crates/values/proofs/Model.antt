@@ -17,7 +17,8 @@ use Rattle.model.proofs.Entries.{settings-entries}
 use Rattle.model.proofs.Form.{facts}
 use Rattle.model.proofs.Tables.{length-short, sound-at, program-back, reads-back}
 use Rattle.search.proofs.Model.{historyIn, held-changes, by-place, after-below}
-use Rattle.values.specs.Values.{valuesBelow, OfSettings}
+use Rattle.search.specs.Searches.{OfSettings}
+use Rattle.values.specs.Values.{valuesBelow}
 
 -- ---- the settings of a run's writes
 

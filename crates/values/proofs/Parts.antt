@@ -16,7 +16,7 @@ use Rattle.model.specs.Form.{holds, distinctSettings}
 use Rattle.model.proofs.Entries.{entries-take, settings-entries}
 use Rattle.run_record.proofs.Entries.{entries-of-settings}
 use Rattle.machine.proofs.Parts.{used-part}
-use Rattle.values.specs.Values.{OfSettings}
+use Rattle.search.specs.Searches.{OfSettings}
 
 -- a part of a table, as it is lent
 abbrev pub part : {A : Type 0} → ℕ → ℕ → ℕ → List A → List A
@@ -40,12 +40,6 @@ module _ (counts settings : List ℕ) (values : List ℤ) (place : ℕ) (h : 32 
       let second = used-part 32 place (getD counts place 0) values in
       (λ j. entries (size j) (first j) (second j)) ∙ entries-take (getD counts place 0) (drop (32 * place) settings) (drop (32 * place) values)
 
--- its settings are those that its entries name
-pub part-named : (counts settings : List ℕ) (values : List ℤ) (place : ℕ) → 32 * place + getD counts place 0 ≤ length values → part 32 place (getD counts place 0) settings ≡ settingsOf (listIn counts settings values place)
-part-named counts settings values place q =
-    used-part 32 place (getD counts place 0) settings
-    ∙ sym (settings-entries (getD counts place 0) (drop (32 * place) settings) (drop (32 * place) values) (simp length-drop (omega (arith, q))))
-
 -- ---- the first count slots of two arrays, as they are lent
 
 module _ {A : Type 0} (count : ℕ) (l : List A) where
@@ -65,23 +59,3 @@ module _ (count : ℕ) (settings : List ℕ) (values : List ℤ) (h : count ≤ 
       let first = first-part count settings in
       let second = first-part count values in
       (λ j. entries (size j) (first j) (second j)) ∙ entries-take count settings values
-
-  pub first-named : take (count - 0) (drop 0 settings) ≡ settingsOf (entries count settings values)
-  first-named = first-part count settings ∙ sym (settings-entries count settings values q)
-
-  -- those of a run are settings
-  pub first-settings : Distinct (entries count settings values) → OfSettings (take (count - 0) (drop 0 settings))
-  first-settings d =
-      subst OfSettings (sym (first-part count settings))
-      (record { below = λ i l. let b : i < count = omega (arith, length-take-le count settings h) in rw (getD-take count settings i 0 b) (entries-of-settings count i settings values d b h q) })
-
--- ---- settings by form
-
--- a place's settings that the test of form has passed
-pub tested-settings : (l : List ℕ) → distinctSettings l ≡ true → OfSettings l
-tested-settings l e = record { below = go l e }
-  where
-    go : (l : List ℕ) → distinctSettings l ≡ true → (i : ℕ) → i < length l → getD l i 0 < settingCount
-    go [] e i h = absurd (omega arith)
-    go (s ∷ l) e zero h = ltb-true s settingCount (both (ltb s settingCount) e .0)
-    go (s ∷ l) e (suc i) h = go l (both (not (holds s l)) (both (ltb s settingCount) e .1) .1) i (omega arith)

@@ -21,7 +21,8 @@ use Rattle.model.specs.Form.{holds}
 use Rattle.model.specs.Walk.{differs}
 use Rattle.model.proofs.Entries.{holds-named}
 use Rattle.model.proofs.Values.{eqZ-true, eqZ-refl}
-use Rattle.values.specs.Values.{OfSettings, IsKnown, AllKnown, Sizes, Known, Looked, changedIn, Collected, restored}
+use Rattle.search.specs.Searches.{OfSettings}
+use Rattle.values.specs.Values.{IsKnown, AllKnown, Sizes, Known, Looked, changedIn, Collected, restored}
 use Rattle.values.proofs.Known.{carried-at}
 use Rattle.values.proofs.Membership.{holds-at, at-holds, holds-joined, holds-changed}
 

@@ -18,10 +18,6 @@ valuesBelow order writes targets written position s = previousWrite order writes
 abbrev pub onSettings : Environment → Environment
 onSettings env s = cond (ltb s settingCount) (env s) (pos 0)
 
--- each of a list is a setting
-pub record OfSettings (settings : List ℕ) : Type 0 where
-  pub below : (i : ℕ) → i < length settings → getD settings i 0 < settingCount
-
 -- ---- which values are known
 
 -- the note of a setting says that its value is known

@@ -15,8 +15,8 @@ ghost use Rattle.machine.specs.Run.{run};
 ghost use Rattle.run_record.specs.Record.{lists, Sized, Ran};
 ghost use Rattle.model.specs.History.{allHold};
 ghost use Rattle.model.specs.Tables.{slots, listIn};
-ghost use Rattle.search.specs.Searches.{PlacesWithin, WriteLists};
-ghost use Rattle.values.specs.Values.{valuesBelow, onSettings, OfSettings, IsKnown, AllKnown, Lookable, Looked};
+ghost use Rattle.search.specs.Searches.{OfSettings, PlacesWithin, WriteLists};
+ghost use Rattle.values.specs.Values.{valuesBelow, onSettings, IsKnown, AllKnown, Lookable, Looked};
 ghost use Rattle.values.specs.Values.{Carried, Collected, restored};
 
 // The value of a setting as of a position of the order list: that of the previous write, or the start value.

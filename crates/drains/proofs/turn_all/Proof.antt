@@ -25,7 +25,6 @@ abbrev μ-loop : tie.MeasureT-loop
 μ-loop held timestamps order status₀ withdrawn lengths programs reads₀ writes₀ sources₀ seen₀ targets₀ written₀ view₀ count before₀ after₀ known₀ readers₀ writers₀ settled₀ totals₀ k₀ status reads writes sources seen targets written view before after known readers writers settled totals k =
     count - k
 
-
 -- src/lib.rt:75:17
 shared-slice-read-count : tie.Need-shared-slice-read-count Inv-loop μ-loop
 shared-slice-read-count c = omega (arith, facts (c .before .before .before .before .before .before .before .before .before .before .before .before .pre) .sizes .held)
@@ -142,4 +141,3 @@ turn-all-spec =
     same-length-7
     same-length-8
     returns)
-

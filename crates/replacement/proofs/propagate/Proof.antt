@@ -12,7 +12,6 @@ use Rattle.marking.proofs.follow_view.Reads as follow-view-reads
 use Rattle.marking.proofs.mark_settings.Reads as mark-settings-reads
 use Rattle.values.proofs.restore.Reads as restore-reads
 
-
 -- src/lib.rt:51:9
 alter-requires : tie.Need-alter-requires
 alter-requires c κs = search needs
@@ -97,4 +96,3 @@ propagate-spec =
     same-length
     same-length-2
     returns)
-

@@ -10,7 +10,6 @@ use Rattle.acts.proofs.new_lists.Reads as new-lists-reads
 use Rattle.replacement.proofs.propagate.Reads as propagate-reads
 use Rattle.storing.proofs.put_lists.Reads as put-lists-reads
 
-
 -- src/lib.rt:124:9
 new-lists-requires : tie.Need-new-lists-requires
 new-lists-requires c κs = let p = c .before .before .before .before .before .before .before .before .before .before .before .before .before .before .before .before .before .before .pre .1 in (p .runnable, new-arrays, p .lookable)
@@ -120,4 +119,3 @@ replace-spec =
     same-length-7
     same-length-8
     returns)
-

@@ -10,7 +10,6 @@ use Rattle.turns.proofs.pass_at.Lts as lts
 use Rattle.turns.proofs.turn_at.Reads as turn-at-reads
 use Rattle.values.proofs.carry_place.Reads as carry-place-reads
 
-
 -- src/lib.rt:258:17
 mul-place : tie.Need-mul-place
 mul-place c = let z = pass-slots (c .before .before .before .before .before .before .before .before .before .before .before .pre .0) (c .before .before .before .before .before .before .before .before .before .before .before .pre .1) in omega (arith, z .position, z .few)
@@ -115,4 +114,3 @@ pass-at-spec =
     same-length-10
     same-length-11
     returns-2)
-

@@ -14,7 +14,6 @@ use Rattle.turns.proofs.answer_of.Reads as answer-of-reads
 use Rattle.turns.proofs.stands.Reads as stands-reads
 use Rattle.values.proofs.carry_place.Reads as carry-place-reads
 
-
 -- src/lib.rt:85:17
 mul-place : tie.Need-mul-place
 mul-place c = let z = turn-slots (c .before .before .before .before .before .before .before .before .before .before .before .pre) in omega (arith, z .position, z .few)
@@ -194,4 +193,3 @@ turn-at-spec =
     same-length-14
     same-length-15
     returns-2)
-

@@ -13,7 +13,6 @@ use Rattle.turns.proofs.turn_once.Lts as lts
 use Rattle.search.proofs.waiting.Reads as waiting-reads
 use Rattle.turns.proofs.turn_at.Reads as turn-at-reads
 
-
 -- src/lib.rt:177:17
 shared-slice-read-count : tie.Need-shared-slice-read-count
 shared-slice-read-count c = omega (arith, facts (c .before .before .before .before .before .before .before .before .before .before .before .before .pre) .sizes .held)
@@ -103,4 +102,3 @@ turn-once-spec =
     returns
     same-length-9
     returns-2)
-
