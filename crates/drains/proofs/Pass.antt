@@ -1,10 +1,12 @@
 -- A drain's pass up the order list, change by change.
-use mathlib.Core.Path.{_≡_, sym, ap, subst, _∙_}
+use mathlib.Core.Path.{_≡_}
+use mathlib.Core.Bool.{Bool}
 use mathlib.Core.List.{List}
+use mathlib.Core.Option.{none, some}
 use Prim.Native.Nat.{ℕ, _+_, _<_, _≤_}
 use native.Mathlib.Omega.{arith}
 use lib.IntN.{ℤ}
-use lib.ListN.{length, replicate}
+use lib.ListN.{length, getD, replicate}
 use Rattle.model.specs.declared.Totals.{Totals}
 use Rattle.model.specs.declared.Turned.{Turned}
 use Rattle.model.specs.History.{start, allSettings}
@@ -12,10 +14,11 @@ use Rattle.model.specs.Tables.{Tables, heldCount}
 use Rattle.model.specs.Form.{Formed}
 use Rattle.model.specs.Calls.{reply}
 use Rattle.model.proofs.Form.{facts}
-use Rattle.search.specs.Searches.{isWaiting}
-use Rattle.search.proofs.First.{none-first}
-use Rattle.values.specs.Values.{Known}
-use Rattle.values.proofs.Known.{known-start, values-first}
+use Rattle.search.specs.Searches.{isWaiting, waitingIn}
+use Rattle.search.proofs.First.{first-some, none-first}
+use Rattle.search.proofs.Model.{tested-settings, placed-writes, listed}
+use Rattle.values.specs.Values.{Carriable, CarriedBelow}
+use Rattle.values.proofs.Known.{known-start}
 use Rattle.marking.specs.Marks.{columnsOf, Walkable}
 use Rattle.marking.specs.Uses.{Numbers, LastUses}
 use Rattle.marking.proofs.LastUses.{numbers-new}
@@ -30,28 +33,49 @@ pub record Passing (T₀ T : Tables) (n : Totals) (k : ℕ) (known : List ℕ) (
   pub drains : Draining T₀ T n
   pub going : Going k T known before after readers writers settled
 
-module _ {T : Tables} (g : Formed (length (T .order)) T) where
-  -- what `last_uses` relies on
-  pub all-noted : (0 ≤ heldCount T) × (heldCount T ≤ 4096) × (heldCount T ≤ length (T .order)) × Walkable (columnsOf T) (length (T .status)) × Numbers (replicate 1024 0) (λ s. 0) × Numbers (replicate 1024 0) (λ s. 0)
-  all-noted = (omega arith, omega (arith, facts g .form .small, facts g .sizes .capacity), omega (arith, facts g .form .small), walkable-form g, numbers-new, numbers-new)
+-- no change waits
+pub pass-none : {T : Tables} → Formed (length (T .order)) T → waitingIn T ≡ none → reply (record { ran = 0; stood = 0; cleared = 0 }) T ≡ drained T
+pass-none {T} g w = drain-ends-here T g (drain-begins T g) w
 
-  -- before the first change
+-- the first change that waits
+module _ {T : Tables} {first : ℕ} (g : Formed (length (T .order)) T) (w : waitingIn T ≡ some first) where
+  abbrev waits : ℕ → Bool
+  waits j = isWaiting (T .order) (T .status) j
+
+  within : first < heldCount T
+  within = first-some waits (heldCount T) first w .0
+
+  -- what `carry_below` relies on
+  pub writes-below : Carriable first (T .order) (T .writes) (T .targets) (T .written)
+  writes-below =
+      record {
+        placed = placed-writes g first (omega (arith, within));
+        listed = listed g;
+        settings = λ j h. tested-settings _ (facts g .form .writes (getD (T .order) j 0) (facts g .form .places j (omega (arith, within))) .distinct);
+      }
+
+  -- and `last_uses`
+  pub uses-above : (first ≤ heldCount T) × (heldCount T ≤ 4096) × (heldCount T ≤ length (T .order)) × Walkable (columnsOf T) (length (T .status)) × Numbers (replicate 1024 0) (λ s. 0) × Numbers (replicate 1024 0) (λ s. 0)
+  uses-above = (omega (arith, within), omega (arith, facts g .form .small, facts g .sizes .capacity), omega (arith, facts g .form .small), walkable-form g, numbers-new, numbers-new)
+
+  -- before its turn
   pub pass-begins :
-      {before after : List ℤ} {readers writers : List ℕ} →
+      {before after before' after' : List ℤ} {readers writers : List ℕ} →
       before ≡ allSettings start →
       after ≡ allSettings start →
-      LastUses 0 (heldCount T) (columnsOf T) (T .status) readers writers →
-      Passing T T (record { ran = 0; stood = 0; cleared = 0 }) 0 (replicate 1024 1) before after readers writers (replicate 1024 0)
-  pass-begins {before} {after} b a u =
+      CarriedBelow first (T .order) (T .writes) (T .targets) (T .written) before after before' after' →
+      LastUses first (heldCount T) (columnsOf T) (T .status) readers writers →
+      Passing T T (record { ran = 0; stood = 0; cleared = 0 }) first (replicate 1024 1) before' after' readers writers (replicate 1024 0)
+  pass-begins b a c u =
       record {
-        within = omega arith;
+        within = omega (arith, within);
         drains = drain-begins T g;
         going =
             record {
               formed = g;
-              passed = λ j h. absurd (omega arith);
-              values = subst (λ env. Known env (replicate 1024 1) before after) (sym (values-first (T .order) (T .writes) (T .targets) (T .written))) (known-start b a);
-              uses = uses-passed (0 + 1) (omega arith) (uses-first u numbers-new);
+              passed = first-some waits (heldCount T) first w .2;
+              values = c .right (replicate 1024 1) (known-start b a);
+              uses = uses-passed (first + 1) (omega arith) (uses-first u numbers-new);
             };
       }
 

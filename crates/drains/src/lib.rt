@@ -3,13 +3,18 @@ use fresh::fill_start;
 use marking::last_uses;
 use model::Totals;
 use model::Turned;
+use search::Found;
+use search::waiting;
 use turns::pass_at;
+use values::carry_below;
 ghost use mathlib.Core.Path.{_≡_};
+ghost use mathlib.Core.Option.{some};
 ghost use Prim.Native.Nat.{_≤_};
 ghost use lib.ListN.{length};
 ghost use Rattle.model.specs.Tables.{tables, withTurn};
 ghost use Rattle.model.specs.Calls.{reply};
 ghost use Rattle.model.specs.Form.{Formed};
+ghost use Rattle.search.specs.Searches.{waitingIn};
 ghost use Rattle.drains.specs.Drained.{countedIn, drained};
 
 // The totals with one more turn.
@@ -41,7 +46,109 @@ fn counted(totals: Totals, answer: Turned) -> Totals
     }
 }
 
-// The turns of a drain, and how many ran, stood and were cleared. All values are known from the start, and it is noted once how far each setting matters.
+// The turns of a drain from its first on, which is that of the change at a position, and how many ran, stood and were cleared. All values are known from the start, and how far
+// each setting matters is noted once.
+fn turn_from(
+    first: usize,
+    held: &[u16],
+    timestamps: &[u64],
+    order: &[u16],
+    status: &mut [u16],
+    withdrawn: &[u16],
+    lengths: &[u16],
+    programs: &[u8],
+    reads: &mut [u16],
+    writes: &mut [u16],
+    sources: &mut [u16],
+    seen: &mut [i32],
+    targets: &mut [u16],
+    written: &mut [i32],
+    view: &mut [i32],
+) -> Totals
+    requires { ⌜
+        (let T =
+        tables (now held) (now timestamps) (now order) (now status) (now withdrawn) (now lengths) (now programs) (now reads)
+        (now writes) (now sources) (now seen) (now targets) (now written) (now view) in
+        Formed (length (T .order)) T × (waitingIn T ≡ some first))
+        ⌝ }
+    ensures { λ r. ⌜
+        (let T =
+        tables (now (held .entry)) (now (timestamps .entry)) (now (order .entry)) (now (status .entry)) (now (withdrawn .entry))
+        (now (lengths .entry)) (now (programs .entry)) (now (reads .entry)) (now (writes .entry)) (now (sources .entry))
+        (now (seen .entry)) (now (targets .entry)) (now (written .entry)) (now (view .entry)) in
+        reply r
+        (withTurn T (now (status .exit)) (now (reads .exit)) (now (writes .exit)) (now (sources .exit)) (now (seen .exit))
+        (now (targets .exit)) (now (written .exit)) (now (view .exit)))
+        ≡ drained T)
+        ⌝ }
+{
+    let count = held[0] as usize;
+    let mut before = [0i32; 1024];
+    let mut after = [0i32; 1024];
+    let mut known = [1u8; 1024];
+    let mut readers = [0u16; 1024];
+    let mut writers = [0u16; 1024];
+    let mut settled = [0u16; 1024];
+    fill_start(&mut before);
+    fill_start(&mut after);
+    carry_below(
+        first,
+        order,
+        writes,
+        targets,
+        written,
+        &mut before,
+        &mut after,
+    );
+    last_uses(
+        first,
+        count,
+        order,
+        status,
+        reads,
+        sources,
+        writes,
+        targets,
+        &mut readers,
+        &mut writers,
+    );
+    let mut totals = Totals {
+        ran: 0,
+        stood: 0,
+        cleared: 0,
+    };
+    let mut k = first;
+    while k < count {
+        let answer = pass_at(
+            k,
+            held,
+            timestamps,
+            order,
+            status,
+            withdrawn,
+            lengths,
+            programs,
+            reads,
+            writes,
+            sources,
+            seen,
+            targets,
+            written,
+            view,
+            &mut before,
+            &mut after,
+            &mut known,
+            &mut readers,
+            &mut writers,
+            &mut settled,
+        );
+        totals = counted(totals, answer);
+        k += 1;
+    }
+    totals
+}
+
+// A drain, and how many of its turns ran, stood and were cleared; none, where no change waits.
 pub fn turn_all(
     held: &[u16],
     timestamps: &[u64],
@@ -73,35 +180,9 @@ pub fn turn_all(
         ⌝ }
 {
     let count = held[0] as usize;
-    let mut before = [0i32; 1024];
-    let mut after = [0i32; 1024];
-    let mut known = [1u8; 1024];
-    let mut readers = [0u16; 1024];
-    let mut writers = [0u16; 1024];
-    let mut settled = [0u16; 1024];
-    fill_start(&mut before);
-    fill_start(&mut after);
-    last_uses(
-        0,
-        count,
-        order,
-        status,
-        reads,
-        sources,
-        writes,
-        targets,
-        &mut readers,
-        &mut writers,
-    );
-    let mut totals = Totals {
-        ran: 0,
-        stood: 0,
-        cleared: 0,
-    };
-    let mut k = 0;
-    while k < count {
-        let answer = pass_at(
-            k,
+    match waiting(count, order, status) {
+        Found::At(first) => turn_from(
+            first,
             held,
             timestamps,
             order,
@@ -116,15 +197,11 @@ pub fn turn_all(
             targets,
             written,
             view,
-            &mut before,
-            &mut after,
-            &mut known,
-            &mut readers,
-            &mut writers,
-            &mut settled,
-        );
-        totals = counted(totals, answer);
-        k += 1;
+        ),
+        Found::Nothing => Totals {
+            ran: 0,
+            stood: 0,
+            cleared: 0,
+        },
     }
-    totals
 }

@@ -3,6 +3,7 @@ use mathlib.Core.Path.{_≡_, refl, sym, ap, ap₂, subst, fun-ext, _∙_}
 use mathlib.Core.Bool.{Bool, true, false}
 use mathlib.Core.List.{List}
 use Prim.Native.Nat.{ℕ, zero, suc, _+_, _≤_, _<_}
+use native.Mathlib.Numerals.{add-one}
 use native.Mathlib.Omega.{arith}
 use borrow.Author.Count.{below-more}
 use borrow.Author.Tests.{eqb-true, eqb-false}
@@ -17,7 +18,7 @@ use Rattle.model.specs.Tables.{listIn}
 use Rattle.model.proofs.Tabulate.{length-tabulate}
 use Rattle.model.proofs.Values.{value-allSettings}
 use Rattle.search.specs.Searches.{previousWrite}
-use Rattle.values.specs.Values.{valuesBelow, IsKnown, AllKnown, Sizes, Known, Looked, Carried}
+use Rattle.values.specs.Values.{valuesBelow, IsKnown, AllKnown, Sizes, Known, Looked, Carried, CarriedBelow}
 
 -- a list of values with writes carried into it gives what the writes make of the environment
 pub carried-at : (env : Environment) (writes : List Entry) (values : List ℤ) {values' : List ℤ} → values' ≡ carry writes values → (s : ℕ) → s < length values → valueIn values s ≡ env s → valueIn values' s ≡ after writes env s
@@ -157,3 +158,16 @@ pub known-next :
     Known (valuesBelow order writes targets written (suc k)) known before' after'
 known-next order writes targets written k {known} {before} {after₀} {before'} {after'} h c =
     subst (λ (env : Environment). Known env known before' after') (sym (values-next order writes targets written k)) (known-carried h c)
+
+-- the writes of the changes below a position carried, one change after the other
+module _ (order writes targets : List ℕ) (written : List ℤ) {before after₀ : List ℤ} where
+  pub carried-none : CarriedBelow 0 order writes targets written before after₀ before after₀
+  carried-none =
+      record { right = λ known h. subst (λ (env : Environment). Known env known before after₀) (sym (values-first order writes targets written)) h }
+
+  pub carried-more :
+      {j : ℕ} {before₁ after₁ before₂ after₂ : List ℤ} →
+      CarriedBelow j order writes targets written before after₀ before₁ after₁ →
+      Carried (listIn writes targets written (getD order j 0)) before₁ after₁ before₂ after₂ →
+      CarriedBelow (j + 1) order writes targets written before after₀ before₂ after₂
+  carried-more {j} b c = record { right = λ known h. rw (add-one j) (known-next order writes targets written j (b .right known h) c) }

@@ -8,7 +8,8 @@ use lib.IntN.{ℤ, pos}
 use lib.ListN.{length, getD, set, take}
 use Rattle.machine.specs.Settings.{settingCount, Environment, valueIn, Entry, _orElse_, carry}
 use Rattle.model.specs.History.{start, eqZ}
-use Rattle.search.specs.Searches.{previousWrite, PlacesWithin, WriteLists}
+use Rattle.model.specs.Tables.{slots}
+use Rattle.search.specs.Searches.{previousWrite, PlacesWithin, WriteLists, OfSettings}
 
 -- the values as of a position of the order list
 abbrev pub valuesBelow : List ℕ → List ℕ → List ℕ → List ℤ → ℕ → Environment
@@ -55,6 +56,16 @@ pub record Looked (env : Environment) (earlier known : List ℕ) (before after :
 pub record Carried (writes : List Entry) (before after before' after' : List ℤ) : Type 0 where
   pub before-is : before' ≡ carry writes before
   pub after-is : after' ≡ carry writes after
+
+-- the changes below a position have their writes in the tables
+pub record Carriable (position : ℕ) (order writes targets : List ℕ) (written : List ℤ) : Type 0 where
+  pub placed : PlacesWithin position order (length writes)
+  pub listed : WriteLists writes targets written
+  pub settings : (j : ℕ) → j < position → OfSettings (slots 32 (getD order j 0) (getD writes (getD order j 0) 0) targets)
+
+-- their writes are carried into both lists: of start values, those as of the position
+pub record CarriedBelow (position : ℕ) (order writes targets : List ℕ) (written before after before' after' : List ℤ) : Type 0 where
+  pub right : (known : List ℕ) → Known start known before after → Known (valuesBelow order writes targets written position) known before' after'
 
 -- ---- where two lists of values differ
 

@@ -17,7 +17,7 @@ ghost use Rattle.model.specs.History.{allHold};
 ghost use Rattle.model.specs.Tables.{slots, listIn};
 ghost use Rattle.search.specs.Searches.{OfSettings, PlacesWithin, WriteLists};
 ghost use Rattle.values.specs.Values.{valuesBelow, onSettings, IsKnown, AllKnown, Lookable, Looked};
-ghost use Rattle.values.specs.Values.{Carried, Collected, restored};
+ghost use Rattle.values.specs.Values.{Carried, Carriable, CarriedBelow, Collected, restored};
 
 // The value of a setting as of a position of the order list: that of the previous write, or the start value.
 pub fn value_below(
@@ -260,6 +260,27 @@ pub fn carry_place(
     let end = begin + writes[place] as usize;
     carry_list(&targets[begin..end], &written[begin..end], before);
     carry_list(&targets[begin..end], &written[begin..end], after);
+}
+
+// The writes of the changes below a position carried into both lists of values, one change after the other.
+pub fn carry_below(
+    k: usize,
+    order: &[u16],
+    writes: &[u16],
+    targets: &[u16],
+    written: &[i32],
+    before: &mut [i32; 1024],
+    after: &mut [i32; 1024],
+)
+    requires { ⌜ Carriable k (now order) (now writes) (now targets) (now written) ⌝ }
+    ensures { λ _. ⌜ CarriedBelow k (now (order .entry)) (now (writes .entry)) (now (targets .entry)) (now (written .entry))
+        (now (before .entry)) (now (after .entry)) (now (before .exit)) (now (after .exit)) ⌝ }
+{
+    let mut j = 0;
+    while j < k {
+        carry_place(order[j] as usize, writes, targets, written, before, after);
+        j += 1;
+    }
 }
 
 // The settings of a list at which the values before and after differ, put behind the first count of those that changed. Answers how many there are then.
