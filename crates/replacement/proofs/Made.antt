@@ -1,10 +1,9 @@
 -- The new lists of a change that does not stand fit their slots.
 use mathlib.Core.Path.{_≡_, refl, sym, ap, subst}
-use mathlib.Core.Bool.{Bool, true, false}
 use mathlib.Core.List.{List}
-use Prim.Native.Nat.{ℕ, _≤_, _<_}
+use Prim.Native.Nat.{ℕ, _≤_}
 use native.Mathlib.Omega.{arith}
-use lib.ListN.{length, getD, take}
+use lib.ListN.{length, take}
 use Rattle.machine.specs.Settings.{Environment, entries, Distinct}
 use Rattle.machine.specs.Run.{Outcome, run}
 use Rattle.machine.proofs.Lists.{run-bounded}

@@ -2,10 +2,9 @@
 use mathlib.Core.Path.{_≡_, sym, ap, subst, _∙_}
 use mathlib.Core.List.{List, []}
 use Prim.Native.Nat.{ℕ, _+_, _-_, _≤_}
-use native.Mathlib.Omega.{arith}
 use lib.IntN.{ℤ}
 use lib.ListN.{length, take, drop}
-use Rattle.machine.specs.Settings.{settingCount, Environment, Entry}
+use Rattle.machine.specs.Settings.{Environment, Entry}
 use Rattle.model.specs.History.{Lists}
 use Rattle.search.specs.Searches.{OfSettings}
 use Rattle.values.specs.Values.{restored}

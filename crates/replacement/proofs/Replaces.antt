@@ -1,11 +1,9 @@
 -- The lists of a change replaced: what each step of the code relies on, from what the steps before it give.
-use mathlib.Core.Path.{_≡_, ap, subst, _∙_}
+use mathlib.Core.Path.{_≡_, subst}
 use mathlib.Core.List.{List}
-use Prim.Native.Nat.{ℕ, _+_, _<_, _≤_}
-use native.Mathlib.Omega.{arith}
+use Prim.Native.Nat.{ℕ, _<_, _≤_}
 use lib.IntN.{ℤ, pos}
 use lib.ListN.{length, getD, replicate, length-replicate}
-use Rattle.machine.specs.Settings.{entries}
 use Rattle.machine.specs.Run.{run}
 use Rattle.run_record.specs.declared.Run.{Run}
 use Rattle.run_record.specs.Record as record-of

@@ -7,7 +7,6 @@ use marking::mark_settings;
 use storing::put_lists;
 use values::restore;
 ghost use mathlib.Core.Path.{_≡_};
-ghost use lib.ListN.{length};
 ghost use Rattle.machine.specs.Settings.{entries};
 ghost use Rattle.acts.specs.declared.Act.the-variants as variant;
 ghost use Rattle.marking.specs.Marks.{columns};

@@ -22,7 +22,7 @@ use Rattle.model.proofs.Figure.{AllValid}
 use Rattle.model.proofs.Form.{facts}
 use Rattle.model.proofs.Tables.{status-at}
 use Rattle.search.specs.Searches.{PlacesWithin, isWaiting, waitingIn}
-use Rattle.search.proofs.First.{first-none, first-some, some-first, none-first}
+use Rattle.search.proofs.First.{first-none, first-some}
 use Rattle.search.proofs.Model.{historyIn, history-length, placed, by-place}
 use Rattle.search.proofs.Passes.{passes, walk-past, walk-valid, all-valid}
 

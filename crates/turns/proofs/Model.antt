@@ -1,9 +1,9 @@
 -- The turn of the change at a position of tables in form, by what is done with it: the tables that it leaves, and what is known for the next position.
 use mathlib.Core.Path.{_≡_, refl, sym, ap, ap₂, subst, _∙_}
-use mathlib.Core.Bool.{Bool, true, false, cond, not}
+use mathlib.Core.Bool.{Bool, false, not}
 use mathlib.Core.List.{List, [], _∷_, _++_, map}
 use mathlib.Core.Option.{none, some}
-use Prim.Native.Nat.{ℕ, zero, suc, _+_, _<_, _≤_}
+use Prim.Native.Nat.{ℕ, zero, suc, _+_, _<_}
 use native.Mathlib.Decide.{decLt}
 use native.Mathlib.Numerals.{add-one}
 use native.Mathlib.Omega.{arith}
@@ -11,16 +11,15 @@ use lib.Dec.{eqb}
 use lib.IntN.{ℤ}
 use lib.ListN.{length, getD, set, take, drop, length-append, List·getD-append}
 use lib.Seq.{length-take-le, drop-at, getD-take, getD-append-add}
-use Rattle.machine.specs.Settings.{settingCount, Environment, Entry, valueIn, entries, after}
-use Rattle.model.specs.declared.Turned.{Turned}
+use Rattle.machine.specs.Settings.{Environment, after}
 use Rattle.model.specs.declared.Turned.the-variants as turn-answer
-use Rattle.model.specs.History.{start, Status, Valid, Lists, Change, change, timestamp, program, status, withdrawn, lists, History, afterAll, allSettings, allHold}
+use Rattle.model.specs.History.{start, Status, Valid, Change, timestamp, status, withdrawn, lists, History, afterAll, allHold}
 use Rattle.model.specs.Figure.{Event, turned}
-use Rattle.model.specs.Walk.{differs, markLive, liveAtEnd}
+use Rattle.model.specs.Walk.{markLive}
 use Rattle.model.specs.Cabinet.{Cabinet, blank, historyOf, withHistory}
-use Rattle.model.specs.Tables.{Tables, heldCount, listIn, statusNumber, flagNumber, withTurn, encode, decode}
+use Rattle.model.specs.Tables.{Tables, heldCount, listIn, statusNumber, flagNumber, encode, decode}
 use Rattle.model.specs.Calls.{reply, eventAnswer, stepReply, roundOf}
-use Rattle.model.specs.Form.{holds, Formed}
+use Rattle.model.specs.Form.{Formed}
 use Rattle.model.specs.Sound.{Sound}
 use Rattle.model.proofs.Cabinet.{length-putAt, withHistory-history, history-again}
 use Rattle.model.proofs.Encode.{lengths-encode}
@@ -39,7 +38,6 @@ use Rattle.marking.specs.Uses.{Uses}
 use Rattle.marking.proofs.Restated.{withStatus, unstated, Restated, restated}
 use Rattle.marking.proofs.Cabinet.{marked-keeps, marked-cabinet-sound}
 use Rattle.acts.specs.declared.Act.{Act}
-use Rattle.acts.specs.declared.Act.the-variants as act
 use Rattle.acts.specs.Acts.{actOf}
 use Rattle.turns.specs.Turns as turns
 use Rattle.turns.proofs.Acts.{stepBy, actBy, walk-acts}

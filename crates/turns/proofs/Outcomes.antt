@@ -3,10 +3,10 @@ use mathlib.Core.Path.{_≡_, refl, sym, ap, ap₂, subst, _∙_}
 use mathlib.Core.Bool.{Bool, true, false, cond, not}
 use mathlib.Core.List.{List, [], _∷_, _++_}
 use mathlib.Core.Option.{some}
-use Prim.Native.Nat.{ℕ, suc, _+_, _<_, _≤_}
+use Prim.Native.Nat.{ℕ, _+_, _<_, _≤_}
 use native.Mathlib.Omega.{arith}
 use lib.IntN.{ℤ}
-use lib.ListN.{length, getD, set, take, drop}
+use lib.ListN.{length, getD, set, take}
 use Rattle.machine.specs.Settings.{settingCount, Environment, Entry, valueIn, entries, after}
 use Rattle.machine.specs.Run.{Outcome, run}
 use Rattle.machine.proofs.Cases.{impossible, true-is-not-false}
@@ -34,13 +34,12 @@ use Rattle.marking.proofs.Model.{uses-replaced, uses-turned, marked-tables, vie
 use Rattle.storing.specs.Stored.{NewLists, replaced, replacedZ, ListsPut}
 use Rattle.acts.specs.declared.Act.{Act}
 use Rattle.acts.specs.declared.Act.the-variants as act
-use Rattle.acts.specs.Acts.{Made}
-use Rattle.replacement.specs.Replaced.{Fitting, newColumns, valuesAt, Propagated}
+use Rattle.replacement.specs.Replaced.{Fitting, newColumns, Propagated}
 use Rattle.replacement.specs.Replaced as replacement
 use Rattle.replacement.proofs.Made.{made-fits}
 use Rattle.turns.specs.Turns as turns
 use Rattle.turns.proofs.Acts.{settleChange, stepBy}
-use Rattle.turns.proofs.Replaced.{replacedTables, Replaces}
+use Rattle.turns.proofs.Replaced.{replacedTables}
 use Rattle.turns.proofs.Model.{view-decode, held, here, later, actIn, timestamp-here, turns-by, stood-tables, settled-tables, next-sound, turn-leaves, going-next}
 
 -- what the test of an act tells

@@ -13,7 +13,7 @@ use Rattle.search.proofs.Model.{tested-settings, placed-writes, listed}
 use Rattle.values.specs.Values.{valuesBelow, Known, Lookable}
 use Rattle.values.proofs.Model.{program-formed}
 use Rattle.acts.specs.Acts.{Positioned, Decidable, Runnable}
-use Rattle.storing.specs.Stored.{NewLists, ListStorable, ListsStorable}
+use Rattle.storing.specs.Stored.{NewLists, ListsStorable}
 use Rattle.marking.specs.Marks.{columnsOf}
 use Rattle.marking.specs.Uses.{Uses}
 use Rattle.marking.proofs.Model.{markable}

@@ -2,7 +2,7 @@
 use mathlib.Core.Path.{_≡_, sym, ap, ap₂, _∙_}
 use mathlib.Core.Bool.{Bool}
 use mathlib.Core.List.{List, [], _∷_, _++_, map}
-use Prim.Native.Nat.{ℕ, suc, _*_, _/_, _<_, _≤_}
+use Prim.Native.Nat.{ℕ, suc, _/_, _<_, _≤_}
 use native.Mathlib.Omega.{arith}
 use lib.IntN.{ℤ, pos}
 use lib.ListN.{length, getD, set, take, drop, length-set, length-map}
@@ -10,7 +10,7 @@ use lib.Seq.{drop-cons, map-set-same}
 use Rattle.machine.specs.Settings.{Entry}
 use Rattle.model.specs.History.{Change, timestamp, program, status, withdrawn, lists, History}
 use Rattle.model.specs.Cabinet.{Cabinet, blank, changesAt, historyOf, putAt, withHistory}
-use Rattle.model.specs.Tables.{statusNumber, flagNumber, pad, column, blocks, settingsOf, valuesOf, Tables, tables, withTurn, encode}
+use Rattle.model.specs.Tables.{statusNumber, flagNumber, pad, blocks, settingsOf, valuesOf, Tables, tables, withTurn, encode}
 use Rattle.model.specs.Sound.{AllDistinct, Sound}
 use Rattle.model.proofs.Blocks.{column-set, Fits, blocks-set}
 use Rattle.model.proofs.Cabinet.{put-back, changesAt-other}

@@ -2,9 +2,9 @@
 use mathlib.Core.Path.{_≡_, refl, sym, ap, _∙_}
 use mathlib.Core.Bool.{Bool, true, false, not}
 use mathlib.Core.List.{List}
-use mathlib.Core.Logic.{inl, inr}
+use mathlib.Core.Logic.{inl}
 use mathlib.Core.Option.{some}
-use Prim.Native.Nat.{ℕ, suc, _+_, _<_, _≤_}
+use Prim.Native.Nat.{ℕ, _+_, _<_}
 use native.Mathlib.Numerals.{add-one}
 use native.Mathlib.Omega.{arith}
 use borrow.Author.Count.{below-more}
@@ -18,10 +18,10 @@ use Rattle.model.specs.Calls.{reply}
 use Rattle.model.specs.Form.{Formed}
 use Rattle.search.specs.Searches.{OfSettings, WriteLists, isWaiting, waitingIn}
 use Rattle.search.proofs.First.{some-first}
-use Rattle.values.specs.Values.{valuesBelow, Known, Lookable, Looked, Carried}
+use Rattle.values.specs.Values.{valuesBelow, Lookable, Looked, Carried}
 use Rattle.values.proofs.Known.{none-known, known-next}
 use Rattle.marking.specs.Marks.{Columns, columnsOf}
-use Rattle.marking.specs.Uses.{Uses, Noted, Notable, UsesNoted}
+use Rattle.marking.specs.Uses.{Uses, Notable, UsesNoted}
 use Rattle.marking.proofs.LastUses.{numbers-new}
 use Rattle.marking.proofs.Model.{uses-noted, notable, uses-passed}
 use Rattle.marking.proofs.Restated.{withStatus}

@@ -1,10 +1,10 @@
 -- The slots of a place behind its list hold 0, by form.
 use mathlib.Core.Path.{_≡_, sym, ap, _∙_}
 use mathlib.Core.List.{List}
-use Prim.Native.Nat.{ℕ, _+_, _-_, _*_, _<_, _≤_}
+use Prim.Native.Nat.{ℕ, _+_, _-_, _*_, _≤_}
 use native.Mathlib.Omega.{arith}
 use lib.IntN.{ℤ, pos}
-use lib.ListN.{length, getD, take, drop, replicate, length-drop, getD-replicate}
+use lib.ListN.{length, getD, drop, replicate, length-drop, getD-replicate}
 use lib.Seq.{getD-drop, getD-take, length-take-le}
 use Rattle.model.specs.Form.{restOf}
 use Rattle.model.proofs.Tests.{TestedList, zeros, zerosZ}

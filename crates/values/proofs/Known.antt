@@ -1,8 +1,8 @@
 -- Laws of known values: looked up, noted, none known at first, carried up to the next position.
-use mathlib.Core.Path.{_≡_, refl, sym, ap, ap₂, subst, fun-ext, _∙_}
+use mathlib.Core.Path.{_≡_, refl, sym, ap, subst, fun-ext, _∙_}
 use mathlib.Core.Bool.{Bool, true, false}
 use mathlib.Core.List.{List}
-use Prim.Native.Nat.{ℕ, zero, suc, _+_, _≤_, _<_}
+use Prim.Native.Nat.{ℕ, suc, _+_, _≤_, _<_}
 use native.Mathlib.Numerals.{add-one}
 use native.Mathlib.Omega.{arith}
 use borrow.Author.Count.{below-more}
@@ -18,7 +18,7 @@ use Rattle.model.specs.Tables.{listIn}
 use Rattle.model.proofs.Tabulate.{length-tabulate}
 use Rattle.model.proofs.Values.{value-allSettings}
 use Rattle.search.specs.Searches.{previousWrite}
-use Rattle.values.specs.Values.{valuesBelow, IsKnown, AllKnown, Sizes, Known, Looked, Carried, CarriedBelow}
+use Rattle.values.specs.Values.{valuesBelow, IsKnown, AllKnown, Known, Looked, Carried, CarriedBelow}
 
 -- a list of values with writes carried into it gives what the writes make of the environment
 pub carried-at : (env : Environment) (writes : List Entry) (values : List ℤ) {values' : List ℤ} → values' ≡ carry writes values → (s : ℕ) → s < length values → valueIn values s ≡ env s → valueIn values' s ≡ after writes env s

@@ -1,20 +1,14 @@
 -- Lists of settings and values as the parts of two columns that the code lends, and which of them are of settings.
 use mathlib.Core.Path.{_≡_, sym, ap, subst, _∙_}
-use mathlib.Core.Bool.{true, not}
-use mathlib.Core.List.{List, [], _∷_}
-use Prim.Native.Nat.{ℕ, zero, suc, _+_, _-_, _*_, _≤_, _<_}
+use mathlib.Core.List.{List}
+use Prim.Native.Nat.{ℕ, _+_, _-_, _*_, _≤_}
 use native.Mathlib.Omega.{arith}
-use borrow.Author.Tests.{ltb-true}
-use lib.Dec.{ltb}
 use lib.IntN.{ℤ}
 use lib.ListN.{length, getD, take, drop, length-drop}
-use lib.Seq.{length-take-le, getD-take}
-use Rattle.machine.specs.Settings.{settingCount, entries, Distinct}
-use Rattle.machine.proofs.Cases.{both}
-use Rattle.model.specs.Tables.{settingsOf, slots, listIn}
-use Rattle.model.specs.Form.{holds, distinctSettings}
-use Rattle.model.proofs.Entries.{entries-take, settings-entries}
-use Rattle.run_record.proofs.Entries.{entries-of-settings}
+use lib.Seq.{length-take-le}
+use Rattle.machine.specs.Settings.{entries}
+use Rattle.model.specs.Tables.{slots, listIn}
+use Rattle.model.proofs.Entries.{entries-take}
 use Rattle.machine.proofs.Parts.{used-part}
 use Rattle.search.specs.Searches.{OfSettings}
 

@@ -7,10 +7,6 @@ use Rattle.drains.proofs.Pass.{pass-none}
 use borrow.Author.Needs.{needs}
 use Rattle.drains.proofs.turn_all.Statement.{statement}
 use Rattle.drains.proofs.turn_all.Tie as tie
-use Rattle.drains.proofs.turn_all.Reads as reads
-use Rattle.drains.proofs.turn_all.Lts as lts
-use Rattle.drains.proofs.turn_from.Reads as turn-from-reads
-use Rattle.search.proofs.waiting.Reads as waiting-reads
 
 
 -- src/lib.rt:182:17

@@ -1,4 +1,3 @@
-use borrow.Author.Needs.{needs}
 use native.Mathlib.Omega.{arith}
 use mathlib.Core.Path.{sym, _∙_}
 use Prim.Native.Nat.{_-_}
@@ -11,12 +10,6 @@ use Rattle.drains.proofs.Pass.{Passing, writes-below, uses-above, pass-
 use Rattle.drains.proofs.turn_from.Statement.{statement}
 use Rattle.drains.proofs.turn_from.Tie as tie
 use Rattle.drains.proofs.turn_from.Reads as reads
-use Rattle.drains.proofs.turn_from.Lts as lts
-use Rattle.drains.proofs.counted.Reads as counted-reads
-use Rattle.fresh.proofs.fill_start.Reads as fill-start-reads
-use Rattle.marking.proofs.last_uses.Reads as last-uses-reads
-use Rattle.turns.proofs.pass_at.Reads as pass-at-reads
-use Rattle.values.proofs.carry_below.Reads as carry-below-reads
 
 abbrev Inv-loop : tie.InvT-loop
 Inv-loop first held timestamps order status₀ withdrawn lengths programs reads₀ writes₀ sources₀ seen₀ targets₀ written₀ view₀ count before₀ after₀ known₀ readers₀ writers₀ settled₀ totals₀ k₀ status reads writes sources seen targets written view before after known readers writers settled totals k =

@@ -1,16 +1,7 @@
-use native.Mathlib.Omega.{arith}
 use Rattle.replacement.proofs.Propagates.{firsts-room, firsts-settings, all-settings, propagated}
-use Prim.Native.Nat.{ℕ}
-use lib.ListN.{length-replicate}
 use borrow.Author.Needs.{needs}
 use Rattle.replacement.proofs.propagate.Statement.{statement}
 use Rattle.replacement.proofs.propagate.Tie as tie
-use Rattle.replacement.proofs.propagate.Reads as reads
-use Rattle.replacement.proofs.propagate.Lts as lts
-use Rattle.acts.proofs.alter.Reads as alter-reads
-use Rattle.marking.proofs.follow_view.Reads as follow-view-reads
-use Rattle.marking.proofs.mark_settings.Reads as mark-settings-reads
-use Rattle.values.proofs.restore.Reads as restore-reads
 
 -- src/lib.rt:51:9
 alter-requires : tie.Need-alter-requires

@@ -4,11 +4,6 @@ use Rattle.replacement.proofs.Replaces.{new-arrays, position-small, pro
 use borrow.Author.Needs.{needs}
 use Rattle.replacement.proofs.replace.Statement.{statement}
 use Rattle.replacement.proofs.replace.Tie as tie
-use Rattle.replacement.proofs.replace.Reads as reads
-use Rattle.replacement.proofs.replace.Lts as lts
-use Rattle.acts.proofs.new_lists.Reads as new-lists-reads
-use Rattle.replacement.proofs.propagate.Reads as propagate-reads
-use Rattle.storing.proofs.put_lists.Reads as put-lists-reads
 
 -- src/lib.rt:124:9
 new-lists-requires : tie.Need-new-lists-requires

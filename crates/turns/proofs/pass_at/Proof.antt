@@ -2,13 +2,8 @@ use native.Mathlib.Omega.{arith}
 use mathlib.Core.Path.{refl}
 use mathlib.Core.Logic.{inr}
 use Rattle.turns.proofs.Steps.{pass-slots, pass-carries, pass-valid, pass-turn}
-use borrow.Author.Needs.{needs}
 use Rattle.turns.proofs.pass_at.Statement.{statement}
 use Rattle.turns.proofs.pass_at.Tie as tie
-use Rattle.turns.proofs.pass_at.Reads as reads
-use Rattle.turns.proofs.pass_at.Lts as lts
-use Rattle.turns.proofs.turn_at.Reads as turn-at-reads
-use Rattle.values.proofs.carry_place.Reads as carry-place-reads
 
 -- src/lib.rt:258:17
 mul-place : tie.Need-mul-place

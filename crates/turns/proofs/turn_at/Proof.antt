@@ -5,14 +5,6 @@ use Rattle.turns.proofs.Steps.{turn-slots, decision, turn-carries, turn
 use borrow.Author.Needs.{needs}
 use Rattle.turns.proofs.turn_at.Statement.{statement}
 use Rattle.turns.proofs.turn_at.Tie as tie
-use Rattle.turns.proofs.turn_at.Reads as reads
-use Rattle.turns.proofs.turn_at.Lts as lts
-use Rattle.acts.proofs.decide.Reads as decide-reads
-use Rattle.marking.proofs.note_uses.Reads as note-uses-reads
-use Rattle.replacement.proofs.replace.Reads as replace-reads
-use Rattle.turns.proofs.answer_of.Reads as answer-of-reads
-use Rattle.turns.proofs.stands.Reads as stands-reads
-use Rattle.values.proofs.carry_place.Reads as carry-place-reads
 
 -- src/lib.rt:85:17
 mul-place : tie.Need-mul-place

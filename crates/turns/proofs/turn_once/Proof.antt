@@ -8,10 +8,6 @@ use Rattle.turns.proofs.Steps.{turn-single}
 use borrow.Author.Needs.{needs}
 use Rattle.turns.proofs.turn_once.Statement.{statement}
 use Rattle.turns.proofs.turn_once.Tie as tie
-use Rattle.turns.proofs.turn_once.Reads as reads
-use Rattle.turns.proofs.turn_once.Lts as lts
-use Rattle.search.proofs.waiting.Reads as waiting-reads
-use Rattle.turns.proofs.turn_at.Reads as turn-at-reads
 
 -- src/lib.rt:177:17
 shared-slice-read-count : tie.Need-shared-slice-read-count
