@@ -28,7 +28,7 @@ use Rattle.search.specs.Searches.{waitingIn}
 use Rattle.search.proofs.Model.{historyIn}
 use Rattle.search.proofs.Waits.{walk-none}
 use Rattle.turns.specs.Turns as turns
-use Rattle.drains.specs.Drained.{countedIn, drained}
+use Rattle.drains.specs.Drained.{countedIn, drained, Passed}
 
 -- ---- totals
 
@@ -145,7 +145,7 @@ module _ (T : Tables) (g : Formed (length (T .order)) T) where
         }
 
     -- after `pass_at`
-    pub drain-passed : {a : Turned} {U : Tables} {n' : Totals} → turns.Passed a T U → n' ≡ countedIn a n → Draining T₀ U n'
+    pub drain-passed : {a : Turned} {U : Tables} {n' : Totals} → Passed a T U → n' ≡ countedIn a n → Draining T₀ U n'
     unfolding turns.turned
     drain-passed {a} {U} {n'} (inl (i, same)) c = subst (λ (W : Tables). Draining T₀ W n') (sym same) (subst (Draining T₀ T) (sym (c ∙ ap (λ (b : Turned). countedIn b n) i)) k)
     drain-passed {a} {U} {n'} (inr e) c =

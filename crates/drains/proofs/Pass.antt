@@ -23,8 +23,8 @@ use Rattle.marking.specs.Marks.{columnsOf, Walkable}
 use Rattle.marking.specs.Uses.{Numbers, LastUses}
 use Rattle.marking.proofs.LastUses.{numbers-new}
 use Rattle.marking.proofs.Model.{walkable-form, uses-first, uses-passed}
-use Rattle.turns.specs.Turns.{Going, Passed}
-use Rattle.drains.specs.Drained.{countedIn, drained}
+use Rattle.turns.specs.Turns.{Going}
+use Rattle.drains.specs.Drained.{countedIn, drained, Passed}
 use Rattle.drains.proofs.Drains.{Draining, drain-begins, drain-passed, drain-ends-here}
 
 -- n counts the turns so far, which have gone up to position k

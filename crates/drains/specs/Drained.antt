@@ -1,4 +1,6 @@
--- A drain as the code counts it.
+-- A drain of tables in form: what it leaves, its steps, and how they are counted.
+use mathlib.Core.Path.{_≡_}
+use mathlib.Core.Logic.{_⊎_}
 use Prim.Native.Nat.{_+_}
 use lib.ListN.{length}
 use Rattle.model.specs.declared.Totals.{Totals}
@@ -7,7 +9,8 @@ use Rattle.model.specs.declared.Turned.the-variants as turn-answer
 use Rattle.model.specs.Drain.{totals}
 use Rattle.model.specs.Cabinet.{withHistory}
 use Rattle.model.specs.Tables.{Tables, encode, decode}
-use Rattle.model.specs.Calls.{Reply, drainOf}
+use Rattle.model.specs.Calls.{Reply, reply, drainOf}
+use Rattle.turns.specs.Turns.{turned}
 
 -- the totals with one more turn
 abbrev pub countedIn : Turned → Totals → Totals
@@ -23,3 +26,7 @@ drained T =
     let c = decode T in
     let d = drainOf c in
     record { answer = totals (d .events); tables = encode (length (T .order)) (withHistory c (d .history) (d .view)) }
+
+-- a drain's step: a Valid change is passed over, any other has its turn
+abbrev pub Passed : Turned → Tables → Tables → Type 0
+Passed r T U = ((r ≡ turn-answer.Idle) × (U ≡ T)) ⊎ (reply r U ≡ turned T)

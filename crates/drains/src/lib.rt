@@ -5,17 +5,93 @@ use model::Totals;
 use model::Turned;
 use search::Found;
 use search::waiting;
-use turns::pass_at;
+use turns::turn_at;
 use values::carry_below;
+use values::carry_place;
 ghost use mathlib.Core.Path.{_≡_};
 ghost use mathlib.Core.Option.{some};
-ghost use Prim.Native.Nat.{_≤_};
+ghost use Prim.Native.Nat.{_+_, _<_, _≤_};
 ghost use lib.ListN.{length};
-ghost use Rattle.model.specs.Tables.{tables, withTurn};
+ghost use Rattle.model.specs.Tables.{tables, heldCount, withTurn};
 ghost use Rattle.model.specs.Calls.{reply};
 ghost use Rattle.model.specs.Form.{Formed};
 ghost use Rattle.search.specs.Searches.{waitingIn};
-ghost use Rattle.drains.specs.Drained.{countedIn, drained};
+ghost use Rattle.turns.specs.Turns.{Going};
+ghost use Rattle.drains.specs.Drained.{countedIn, drained, Passed};
+
+// A drain's step: the change at position k is passed over where it is Valid, and has its turn where it is not.
+fn pass_at(
+    k: usize,
+    held: &[u16],
+    timestamps: &[u64],
+    order: &[u16],
+    status: &mut [u16],
+    withdrawn: &[u16],
+    lengths: &[u16],
+    programs: &[u8],
+    reads: &mut [u16],
+    writes: &mut [u16],
+    sources: &mut [u16],
+    seen: &mut [i32],
+    targets: &mut [u16],
+    written: &mut [i32],
+    view: &mut [i32],
+    before: &mut [i32; 1024],
+    after: &mut [i32; 1024],
+    known: &mut [u8; 1024],
+    readers: &mut [u16; 1024],
+    writers: &mut [u16; 1024],
+    settled: &mut [u16; 1024],
+) -> Turned
+    requires { ⌜
+        (let T =
+        tables (now held) (now timestamps) (now order) (now status) (now withdrawn) (now lengths) (now programs) (now reads)
+        (now writes) (now sources) (now seen) (now targets) (now written) (now view) in
+        (k < heldCount T) × Going k T (now known) (now before) (now after) (now readers) (now writers) (now settled))
+        ⌝ }
+    ensures { λ r. ⌜
+        (let T =
+        tables (now (held .entry)) (now (timestamps .entry)) (now (order .entry)) (now (status .entry)) (now (withdrawn .entry))
+        (now (lengths .entry)) (now (programs .entry)) (now (reads .entry)) (now (writes .entry)) (now (sources .entry))
+        (now (seen .entry)) (now (targets .entry)) (now (written .entry)) (now (view .entry)) in
+        let U =
+        withTurn T (now (status .exit)) (now (reads .exit)) (now (writes .exit)) (now (sources .exit)) (now (seen .exit))
+        (now (targets .exit)) (now (written .exit)) (now (view .exit)) in
+        Passed r T U
+        × Going (k + 1) U (now (known .exit)) (now (before .exit)) (now (after .exit)) (now (readers .exit)) (now (writers .exit))
+        (now (settled .exit)))
+        ⌝ }
+{
+    let place = order[k] as usize;
+    if status[place] == 1 {
+        carry_place(place, writes, targets, written, before, after);
+        return Turned::Idle;
+    }
+    turn_at(
+        true,
+        k,
+        held,
+        timestamps,
+        order,
+        status,
+        withdrawn,
+        lengths,
+        programs,
+        reads,
+        writes,
+        sources,
+        seen,
+        targets,
+        written,
+        view,
+        before,
+        after,
+        known,
+        readers,
+        writers,
+        settled,
+    )
+}
 
 // The totals with one more turn.
 fn counted(totals: Totals, answer: Turned) -> Totals

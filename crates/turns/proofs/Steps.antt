@@ -1,14 +1,10 @@
 -- The steps of the turn at a position: what each relies on, and what the turn leaves.
-use mathlib.Core.Path.{_≡_, refl, sym, ap, _∙_}
-use mathlib.Core.Bool.{Bool, true, false, not}
+use mathlib.Core.Path.{_≡_, sym, _∙_}
+use mathlib.Core.Bool.{Bool, true, false}
 use mathlib.Core.List.{List}
-use mathlib.Core.Logic.{inl}
 use mathlib.Core.Option.{some}
 use Prim.Native.Nat.{ℕ, _+_, _<_}
-use native.Mathlib.Numerals.{add-one}
 use native.Mathlib.Omega.{arith}
-use borrow.Author.Count.{below-more}
-use borrow.Author.Tests.{eq-eqb, ne-eqb}
 use lib.IntN.{ℤ, pos}
 use lib.ListN.{length, getD, set, replicate}
 use Rattle.model.specs.declared.Turned.{Turned}
@@ -16,20 +12,19 @@ use Rattle.model.specs.declared.Turned.the-variants as turn-answer
 use Rattle.model.specs.Tables.{Tables, heldCount, slots, listIn}
 use Rattle.model.specs.Calls.{reply}
 use Rattle.model.specs.Form.{Formed}
-use Rattle.search.specs.Searches.{OfSettings, WriteLists, isWaiting, waitingIn}
-use Rattle.search.proofs.First.{some-first}
+use Rattle.search.specs.Searches.{OfSettings, WriteLists, waitingIn}
 use Rattle.values.specs.Values.{valuesBelow, Lookable, Looked, Carried}
-use Rattle.values.proofs.Known.{none-known, known-next}
+use Rattle.values.proofs.Known.{none-known}
 use Rattle.marking.specs.Marks.{Columns, columnsOf}
 use Rattle.marking.specs.Uses.{Uses, Notable, UsesNoted}
 use Rattle.marking.proofs.LastUses.{numbers-new}
-use Rattle.marking.proofs.Model.{uses-noted, notable, uses-passed}
+use Rattle.marking.proofs.Model.{uses-noted, notable}
 use Rattle.marking.proofs.Restated.{withStatus}
 use Rattle.acts.specs.declared.Act.{Act}
 use Rattle.acts.specs.declared.Act.the-variants as act
 use Rattle.acts.specs.Acts.{Decidable}
 use Rattle.replacement.specs.Replaced.{Replaceable, Replaced}
-use Rattle.turns.specs.Turns.{turned, Going, Turnable, Passed, isStand, answerBy}
+use Rattle.turns.specs.Turns.{turned, Going, Turnable, isStand, answerBy}
 use Rattle.turns.proofs.Relied.{Slots, slots-of, decidable, lookable, replaceable, carriable}
 use Rattle.turns.proofs.Model.{held, actIn}
 use Rattle.turns.proofs.Outcomes.{is-stand, not-stand, turn-stood, going-stood, leftTables, turn-replaced}
@@ -103,41 +98,3 @@ turn-single g w =
       values = none-known _;
       notes = record { uses = λ e. absurd (let z : _≡_ {A = ℕ} 0 1 = cc in omega arith); none = λ e. (numbers-new, numbers-new, numbers-new) };
     }
-
--- ---- `pass_at`
-
-module _ {k : ℕ} {T : Tables} {known : List ℕ} {before after : List ℤ} {readers writers settled : List ℕ} (h : k < heldCount T) (p : Going k T known before after readers writers settled) where
-  pub pass-slots : Slots T k
-  pass-slots = slots-of (p .formed) k h
-
-  pub pass-carries : (getD (T .order) k 0 < length (T .writes)) × WriteLists (T .writes) (T .targets) (T .written) × OfSettings (slots 32 (getD (T .order) k 0) (getD (T .writes) (getD (T .order) k 0) 0) (T .targets))
-  pass-carries = carriable (p .formed) k h
-
-  -- the change is Valid
-  pub pass-valid :
-      {before' after' : List ℤ} →
-      getD (T .status) (getD (T .order) k 0) 0 ≡ 1 →
-      Carried (listIn (T .writes) (T .targets) (T .written) (getD (T .order) k 0)) before after before' after' →
-      Passed turn-answer.Idle T T × Going (k + 1) T known before' after' readers writers settled
-  pass-valid {before'} {after'} v c = (
-    inl (refl, refl),
-    record {
-      formed = p .formed;
-      passed = below-next;
-      values = rw (add-one k) (known-next (T .order) (T .writes) (T .targets) (T .written) k (p .values) c);
-      uses = uses-passed (k + 1 + 1) (omega arith) (p .uses);
-    },
-  )
-    where
-      below-next : (j : ℕ) → j < k + 1 → isWaiting (T .order) (T .status) j ≡ false
-      below-next = below-more (λ j. isWaiting (T .order) (T .status) j ≡ false) k (p .passed) (ap not (eq-eqb _ 1 v))
-
-  -- it is not
-  pub pass-turn : (getD (T .status) (getD (T .order) k 0) 0 ≡ 1 → ⊥) → Turnable true k T known before after readers writers settled
-  pass-turn v =
-      record {
-        formed = p .formed;
-        waits = some-first (isWaiting (T .order) (T .status)) (heldCount T) k h (rw (ne-eqb (getD (T .status) (getD (T .order) k 0) 0) 1 v)) (p .passed);
-        values = p .values;
-        notes = record { uses = λ e. p .uses; none = λ e. absurd (let z : _≡_ {A = ℕ} 0 1 = cc in omega arith) };
-      }

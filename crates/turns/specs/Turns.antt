@@ -2,7 +2,6 @@
 use mathlib.Core.Path.{_≡_}
 use mathlib.Core.Bool.{Bool, true, false}
 use mathlib.Core.List.{List}
-use mathlib.Core.Logic.{_⊎_}
 use mathlib.Core.Option.{some}
 use Prim.Native.Nat.{ℕ, _+_, _<_}
 use lib.IntN.{ℤ}
@@ -11,7 +10,7 @@ use Rattle.model.specs.declared.Turned.{Turned}
 use Rattle.model.specs.declared.Turned.the-variants as turn-answer
 use Rattle.model.specs.Tables.{Tables, decode}
 use Rattle.model.specs.Form.{Formed}
-use Rattle.model.specs.Calls.{Reply, reply, stepReply, roundOf}
+use Rattle.model.specs.Calls.{Reply, stepReply, roundOf}
 use Rattle.search.specs.Searches.{isWaiting, waitingIn}
 use Rattle.values.specs.Values.{valuesBelow, Known}
 use Rattle.marking.specs.Uses.{Uses, Noted}
@@ -37,10 +36,6 @@ pub record Turnable (noted : Bool) (k : ℕ) (T : Tables) (known : List ℕ) (be
   pub waits : waitingIn T ≡ some k
   pub values : Known (valuesBelow (T .order) (T .writes) (T .targets) (T .written) k) known before after
   pub notes : Noted noted (k + 1) T readers writers settled
-
--- a drain's step: a Valid change is passed over, any other has its turn
-abbrev pub Passed : Turned → Tables → Tables → Type 0
-Passed r T U = ((r ≡ turn-answer.Idle) × (U ≡ T)) ⊎ (reply r U ≡ turned T)
 
 -- ---- by what is done with a change
 

@@ -8,7 +8,6 @@ use borrow.Author.Needs.{needs}
 use Rattle.drains.proofs.turn_all.Statement.{statement}
 use Rattle.drains.proofs.turn_all.Tie as tie
 
-
 -- src/lib.rt:182:17
 shared-slice-read-count : tie.Need-shared-slice-read-count
 shared-slice-read-count c = omega (arith, facts (c .before .before .before .before .before .before .before .before .before .before .before .before .pre) .sizes .held)
@@ -98,4 +97,3 @@ turn-all-spec =
     returns
     same-length-9
     returns-2)
-

@@ -19,7 +19,6 @@ abbrev μ-loop : tie.MeasureT-loop
 μ-loop first held timestamps order status₀ withdrawn lengths programs reads₀ writes₀ sources₀ seen₀ targets₀ written₀ view₀ count before₀ after₀ known₀ readers₀ writers₀ settled₀ totals₀ k₀ status reads writes sources seen targets written view before after known readers writers settled totals k =
     count - k
 
-
 -- src/lib.rt:85:17
 shared-slice-read-count : tie.Need-shared-slice-read-count Inv-loop μ-loop
 shared-slice-read-count c = omega (arith, facts (c .before .before .before .before .before .before .before .before .before .before .before .before .pre .0) .sizes .held)
@@ -141,4 +140,3 @@ turn-from-spec =
     same-length-7
     same-length-8
     returns)
-

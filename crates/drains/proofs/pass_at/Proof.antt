@@ -1,9 +1,9 @@
 use native.Mathlib.Omega.{arith}
 use mathlib.Core.Path.{refl}
 use mathlib.Core.Logic.{inr}
-use Rattle.turns.proofs.Steps.{pass-slots, pass-carries, pass-valid, pass-turn}
-use Rattle.turns.proofs.pass_at.Statement.{statement}
-use Rattle.turns.proofs.pass_at.Tie as tie
+use Rattle.drains.proofs.Steps.{pass-slots, pass-carries, pass-valid, pass-turn}
+use Rattle.drains.proofs.pass_at.Statement.{statement}
+use Rattle.drains.proofs.pass_at.Tie as tie
 
 -- src/lib.rt:258:17
 mul-place : tie.Need-mul-place
