@@ -1,31 +1,32 @@
 -- Marking, the view that follows, and what is known of the settings, on tables that are in form, as they are on the history that the tables hold.
 use mathlib.Core.Path.{_≡_, refl, sym, ap, ap₂, subst, _∙_}
 use mathlib.Core.Bool.{Bool, true, false, cond, not, _&&_, Bool·not-not}
-use mathlib.Core.List.{List, [], _∷_, _++_}
+use mathlib.Core.List.{List, [], _∷_, _++_, map}
 use Prim.Native.Nat.{ℕ, zero, suc, _+_, _-_, _<_, _≤_}
 use native.Mathlib.Decide.{decLt}
 use native.Mathlib.Numerals.{add-one}
 use native.Mathlib.Omega.{arith}
 use borrow.Author.Tests.{ltb-true, leb-true, leb-false}
 use lib.Dec.{ltb, leb}
-use lib.IntN.{ℤ}
-use lib.ListN.{length, getD, take, drop, length-append, length-drop, List·getD-eq-default}
+use lib.IntN.{ℤ, pos}
+use lib.ListN.{length, getD, take, drop, length-append, length-drop, length-map, List·getD-eq-default}
 use lib.Seq.{getD-drop, length-take-le, drop-at, drop-append-add}
-use Rattle.machine.specs.Settings.{settingCount, Environment, valueIn, isSome, lookup}
+use Rattle.machine.specs.Settings.{settingCount, Environment, Entry, valueIn, isSome, lookup}
 use Rattle.machine.proofs.Cases.{by-test₂, both}
 use Rattle.model.specs.History.{Change, lists, History, allSettings}
 use Rattle.model.specs.Form.{holds, distinctSettings, Formed}
 use Rattle.model.specs.Walk.{markLive, liveAtEnd}
 use Rattle.model.specs.Cabinet.{Cabinet, blank, historyOf, withHistory}
-use Rattle.model.specs.Tables.{Tables, heldCount, encode, decode}
+use Rattle.model.specs.Tables.{column, blocks, Tables, heldCount, encode, decode}
 use Rattle.model.specs.Sound.{AllSound, Sound}
+use Rattle.model.proofs.Blocks.{column-get, Fits, blocks-at}
 use Rattle.model.proofs.Form.{facts}
 use Rattle.model.proofs.Cabinet.{length-putAt, withHistory-history}
 use Rattle.model.proofs.Keeps.{keeps-length, history-sound}
 use Rattle.model.proofs.Order.{changesAt-length}
-use Rattle.model.proofs.Tables.{reads-at, writes-at}
+use Rattle.model.proofs.Tables.{reads-fit, writes-fit, settings-fit, values-fit, reads-at, writes-at}
 use Rattle.search.proofs.Model.{historyIn, held-changes, history-length, place-of}
-use Rattle.marking.specs.Marks.{columnsOf, listAt, writesSetting, markedSettings, followed, AllSettings, Walkable}
+use Rattle.marking.specs.Marks.{columnsOf, listAt, writesSetting, markedSettings, followed, EmptyBehind, AllSettings, Walkable}
 use Rattle.marking.specs.Uses.{Numbers, LastUses, ReadersEnd, WritersEnd, Settled, Uses, Noted, Notable, UsesNoted, Markable}
 use Rattle.marking.proofs.LastUses.{readers-end, writers-end, settled-none}
 use Rattle.marking.proofs.LiveSets.{writes-one, writtenIn, live-unwritten, written-some, written-none, Agree, mark-agrees}
@@ -41,6 +42,35 @@ settings-below : (l : List ℕ) → distinctSettings l ≡ true → AllSettings 
 settings-below [] e j h = absurd (omega arith)
 settings-below (s ∷ l) e zero h = ltb-true s settingCount (both (ltb s settingCount) e .0)
 settings-below (s ∷ l) e (suc j) h = settings-below l (both (not (holds s l)) (both (ltb s settingCount) e .1) .1) j (omega arith)
+
+-- the slots of every place behind its lists hold 0
+pub record EmptyRests (T : Tables) : Type 0 where
+  pub sources : (i : ℕ) → EmptyBehind 0 (T .reads) (T .sources) i
+  pub seen : (i : ℕ) → EmptyBehind (pos 0) (T .reads) (T .seen) i
+  pub targets : (i : ℕ) → EmptyBehind 0 (T .writes) (T .targets) i
+  pub written : (i : ℕ) → EmptyBehind (pos 0) (T .writes) (T .written) i
+
+module _ (n : ℕ) (field : Change → List Entry) (b : field blank ≡ []) (changes : List Change) where
+  empty-rest : {A : Type 0} (z : A) (part : Entry → A) → Fits 32 (λ d. map part (field d)) changes → (i : ℕ) → EmptyBehind z (column n 0 (λ d. length (field d)) changes) (blocks n 32 z (λ d. map part (field d)) changes) i
+  empty-rest z part k i j h q =
+      let list = field (getD changes i blank) in
+      blocks-at n 32 z (λ d. map part (field d)) (ap (map part) b) changes i j k q
+      ∙ List·getD-eq-default (map part list) z {n = j} (omega (arith, h, length-map list part, column-get n 0 (λ d. length (field d)) changes i (ap length b)))
+
+encode-rests : {n : ℕ} {c : Cabinet} → Sound n c → EmptyRests (encode n c)
+unfolding encode
+encode-rests {n} {c} s =
+    let reads = reads-fit (c .changes) (s .each) in
+    let writes = writes-fit (c .changes) (s .each) in
+    record {
+      sources = empty-rest n (λ d. lists d .reads) refl (c .changes) 0 (λ (e : Entry). e .setting) (settings-fit (λ d. lists d .reads) (c .changes) reads);
+      seen = empty-rest n (λ d. lists d .reads) refl (c .changes) (pos 0) (λ (e : Entry). e .value) (values-fit (λ d. lists d .reads) (c .changes) reads);
+      targets = empty-rest n (λ d. lists d .writes) refl (c .changes) 0 (λ (e : Entry). e .setting) (settings-fit (λ d. lists d .writes) (c .changes) writes);
+      written = empty-rest n (λ d. lists d .writes) refl (c .changes) (pos 0) (λ (e : Entry). e .value) (values-fit (λ d. lists d .writes) (c .changes) writes);
+    }
+
+pub empty-rests : {n : ℕ} {T : Tables} → Formed n T → EmptyRests T
+empty-rests g = subst EmptyRests (facts g .laid) (encode-rests (facts g .sound))
 
 no-settings : (counts settings : List ℕ) (i : ℕ) → getD counts i 0 ≡ 0 → AllSettings (listAt counts settings i)
 no-settings counts settings i e = rw e (λ j h. absurd (omega arith))
@@ -82,6 +112,8 @@ module _ {n : ℕ} {T : Tables} (g : Formed n T) where
         write-slots = omega (arith, l .status, l .targets);
         reads-short = λ i h. short-lists i (decLt i (heldCount T)) .0;
         writes-short = λ i h. short-lists i (decLt i (heldCount T)) .1;
+        read-rest = λ i h. empty-rests g .sources i;
+        write-rest = λ i h. empty-rests g .targets i;
         read-settings = λ i h. list-settings i (decLt i (heldCount T)) .0;
         write-settings = λ i h. list-settings i (decLt i (heldCount T)) .1;
       }

@@ -20,14 +20,17 @@ fn names_setting(s: u16, settings: &[u16]) -> bool
     found
 }
 
-// Whether the list of a place names a setting.
+// Whether the list of a place names a setting. Slots behind the list hold 0, so a setting other than 0 is looked for in all 32: a loop of known length is the faster one.
 fn names_at(s: u16, place: usize, counts: &[u16], settings: &[u16]) -> bool
     requires { ⌜ marks.Listed place (now counts) (now settings) ⌝ }
     ensures { λ r. ⌜ r ≡ holds s (marks.listAt (now (counts .entry)) (now (settings .entry)) place) ⌝ }
 {
     let begin = 32 * place;
-    let end = begin + counts[place] as usize;
-    names_setting(s, &settings[begin..end])
+    if s == 0 {
+        let end = begin + counts[place] as usize;
+        return names_setting(s, &settings[begin..end]);
+    }
+    names_setting(s, &settings[begin..begin + 32])
 }
 
 // A Valid change that reads a setting becomes Invalid. Whether it writes the setting.
