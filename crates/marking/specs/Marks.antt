@@ -6,9 +6,10 @@ use Prim.Native.Nat.{ℕ, zero, suc, _+_, _-_, _*_, _<_, _≤_}
 use lib.Dec.{eqb, leb}
 use lib.IntN.{ℤ}
 use lib.ListN.{length, getD, set}
-use Rattle.machine.specs.Settings.{settingCount, valueIn}
+use Rattle.machine.specs.Settings.{valueIn}
 use Rattle.model.specs.Form.{holds}
 use Rattle.model.specs.Tables.{Tables, slots}
+use Rattle.search.specs.Searches.{OfSettings}
 
 -- the order list, and the counts and the settings of the read and write lists by place
 pub record Columns : Type 0 where
@@ -81,10 +82,6 @@ pub record Listed (place : ℕ) (counts settings : List ℕ) : Type 0 where
   pub room : 32 * place + 32 ≤ length settings
   pub rest : EmptyBehind 0 counts settings place
 
--- settings below 1,024
-abbrev pub AllSettings : List ℕ → Type 0
-AllSettings l = (j : ℕ) → j < length l → getD l j 0 < settingCount
-
 -- places that the tables have (a position that is not held has the first), counts of at most 32, 0 behind the lists, settings below 1,024
 pub record Walkable (C : Columns) (places : ℕ) : Type 0 where
   pub small : places ≤ 4096
@@ -97,5 +94,5 @@ pub record Walkable (C : Columns) (places : ℕ) : Type 0 where
   pub writes-short : (i : ℕ) → i < places → getD (C .writes) i 0 ≤ 32
   pub read-rest : (i : ℕ) → i < places → EmptyBehind 0 (C .reads) (C .sources) i
   pub write-rest : (i : ℕ) → i < places → EmptyBehind 0 (C .writes) (C .targets) i
-  pub read-settings : (i : ℕ) → i < places → AllSettings (listAt (C .reads) (C .sources) i)
-  pub write-settings : (i : ℕ) → i < places → AllSettings (listAt (C .writes) (C .targets) i)
+  pub read-settings : (i : ℕ) → i < places → OfSettings (listAt (C .reads) (C .sources) i)
+  pub write-settings : (i : ℕ) → i < places → OfSettings (listAt (C .writes) (C .targets) i)

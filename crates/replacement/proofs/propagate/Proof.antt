@@ -1,5 +1,5 @@
 use native.Mathlib.Omega.{arith}
-use Rattle.replacement.proofs.Propagates.{firsts-room, firsts-settings, all-settings, propagated}
+use Rattle.replacement.proofs.Propagates.{firsts-room, firsts-settings, propagated}
 use Prim.Native.Nat.{ℕ}
 use lib.ListN.{length-replicate}
 use borrow.Author.Needs.{needs}
@@ -30,7 +30,7 @@ part-mark-settings-end c = firsts-room (c .before .alter .ensures)
 
 -- src/lib.rt:65:5
 mark-settings-requires : tie.Need-mark-settings-requires
-mark-settings-requires c κs = let p = c .before .before .before .before .before .before .before .before .before .before .before .before .before .before .before .before .pre in (p .small, all-settings (c .before .before .before .before .alter .ensures), p .markable)
+mark-settings-requires c κs = let p = c .before .before .before .before .before .before .before .before .before .before .before .before .before .before .before .before .pre in (p .small, firsts-settings (c .before .before .before .before .alter .ensures), p .markable)
 
 -- src/lib.rt:77:17
 sub-follow-view : tie.Need-sub-follow-view
@@ -46,7 +46,7 @@ part-follow-view-end c = firsts-room (c .before .before .before .before .before 
 
 -- src/lib.rt:77:5
 follow-view-requires : tie.Need-follow-view-requires
-follow-view-requires c κs = let p = c .before .before .before .before .before .before .before .before .before .before .before .before .before .before .before .before .before .before .before .before .before .before .before .pre in (p .small, all-settings (c .before .before .before .before .before .before .before .before .before .before .before .alter .ensures), p .viewed)
+follow-view-requires c κs = let p = c .before .before .before .before .before .before .before .before .before .before .before .before .before .before .before .before .before .before .before .before .before .before .before .pre in (p .small, firsts-settings (c .before .before .before .before .before .before .before .before .before .before .before .alter .ensures), p .viewed)
 
 -- src/lib.rt:78:13
 sub-restore : tie.Need-sub-restore
