@@ -22,7 +22,8 @@ use Rattle.model.proofs.Cabinet.{put-back, changesAt-other, withHistory-history
 use Rattle.model.proofs.Keeps.{Keeps, keeps-length, withHistory-sound}
 use Rattle.model.proofs.Sound.{marked-sound}
 use Rattle.model.proofs.Tables.{reads-fit, writes-fit, settings-back, order-at}
-use Rattle.marking.specs.Marks.{Columns, columnsOf, listAt, markedPlace, markedFrom, markedSettings, AllSettings}
+use Rattle.search.specs.Searches.{OfSettings}
+use Rattle.marking.specs.Marks.{Columns, columnsOf, listAt, markedPlace, markedFrom, markedSettings}
 use Rattle.marking.specs.Uses.{ReadersEnd}
 use Rattle.marking.proofs.LiveSets.{mark-union, mark-unread, unread-none, reads-one, close-written, close-unwritten}
 use Rattle.marking.proofs.LastUses.{readers-enough, readers-walked}
@@ -171,7 +172,7 @@ module _ (n k : ℕ) where
         ∙ history-again c (markedAfter k f (historyOf c)) (markedAfter k (λ x. f x || g x) (historyOf c)) (c .view) (c .view) (s .placed) (keeps-length (marked-keeps k (λ x. f x || g x) (historyOf c) (c .view)))
 
   -- every setting of a list, each up to where its readers end
-  pub marked-all : (changed : List ℕ) → AllSettings changed → (c : Cabinet) → Sound n c → (readers : List ℕ) → ReadersEnd k (heldCount (encode n c)) (columnsOf (encode n c)) (encode n c .status) readers → withStatus (encode n c) (markedSettings (columnsOf (encode n c)) readers k changed (encode n c .status)) ≡ encode n (markedCabinet k (λ x. holds x changed) c)
+  pub marked-all : (changed : List ℕ) → OfSettings changed → (c : Cabinet) → Sound n c → (readers : List ℕ) → ReadersEnd k (heldCount (encode n c)) (columnsOf (encode n c)) (encode n c .status) readers → withStatus (encode n c) (markedSettings (columnsOf (encode n c)) readers k changed (encode n c .status)) ≡ encode n (markedCabinet k (λ x. holds x changed) c)
   unfolding markedSettings
   marked-all [] a c s readers r = ap (encode n) (sym (ap (λ (h : History). withHistory c h (c .view)) (after-none k (historyOf c)) ∙ same-history c))
   marked-all (x ∷ changed) a c s readers r =
@@ -180,9 +181,9 @@ module _ (n k : ℕ) where
       let c' = markedCabinet k (eqb x) c in
       let s' : Sound n c' = marked-cabinet-sound k (eqb x) s in
       let same : encode n c' ≡ withStatus E (encode n c' .status) = restated n c (s .placed) (markedAfter k (eqb x) (historyOf c)) (marked-restated k (eqb x) (historyOf c)) in
-      let one : markedFrom C x k (getD readers x 0 - k) (E .status) ≡ encode n c' .status = readers-enough r x (a 0 (omega arith)) ∙ marked-one c s x in
+      let one : markedFrom C x k (getD readers x 0 - k) (E .status) ≡ encode n c' .status = readers-enough r x (a .below 0 (omega arith)) ∙ marked-one c s x in
       let r' : ReadersEnd k (heldCount E) C (encode n c' .status) readers = rw one at (readers-walked r x) in
-      let ih = marked-all changed (λ j h. a (suc j) (omega arith)) c' s' readers (subst (λ (U : Tables). ReadersEnd k (heldCount U) (columnsOf U) (U .status) readers) (sym same) r') in
+      let ih = marked-all changed (record { below = λ j h. a .below (suc j) (omega arith) }) c' s' readers (subst (λ (U : Tables). ReadersEnd k (heldCount U) (columnsOf U) (U .status) readers) (sym same) r') in
       ap (λ (status : List ℕ). withStatus E (markedSettings C readers k changed status)) one
       ∙ subst (λ (U : Tables). withStatus U (markedSettings (columnsOf U) readers k changed (U .status)) ≡ encode n (markedCabinet k (λ y. holds y changed) c')) same ih
       ∙ ap (encode n) (marked-twice c s (eqb x) (λ y. holds y changed))

@@ -1,31 +1,33 @@
 -- Marking, the view that follows, and what is known of the settings, on tables that are in form, as they are on the history that the tables hold.
 use mathlib.Core.Path.{_≡_, refl, sym, ap, ap₂, subst, _∙_}
 use mathlib.Core.Bool.{Bool, true, false, cond, not, _&&_, Bool·not-not}
-use mathlib.Core.List.{List, [], _∷_, _++_}
+use mathlib.Core.List.{List, [], _∷_, _++_, map}
 use Prim.Native.Nat.{ℕ, zero, suc, _+_, _-_, _<_, _≤_}
 use native.Mathlib.Decide.{decLt}
 use native.Mathlib.Numerals.{add-one}
 use native.Mathlib.Omega.{arith}
-use borrow.Author.Tests.{ltb-true, leb-true, leb-false}
-use lib.Dec.{ltb, leb}
-use lib.IntN.{ℤ}
-use lib.ListN.{length, getD, take, drop, length-append, length-drop, List·getD-eq-default}
+use borrow.Author.Tests.{leb-true, leb-false}
+use lib.Dec.{leb}
+use lib.IntN.{ℤ, pos}
+use lib.ListN.{length, getD, take, drop, length-append, length-drop, length-map, List·getD-eq-default}
 use lib.Seq.{getD-drop, length-take-le, drop-at, drop-append-add}
-use Rattle.machine.specs.Settings.{settingCount, Environment, valueIn, isSome, lookup}
+use Rattle.machine.specs.Settings.{settingCount, Environment, Entry, valueIn, isSome, lookup}
 use Rattle.machine.proofs.Cases.{by-test₂, both}
 use Rattle.model.specs.History.{Change, lists, History, allSettings}
-use Rattle.model.specs.Form.{holds, distinctSettings, Formed}
+use Rattle.model.specs.Form.{holds, Formed}
 use Rattle.model.specs.Walk.{markLive, liveAtEnd}
 use Rattle.model.specs.Cabinet.{Cabinet, blank, historyOf, withHistory}
-use Rattle.model.specs.Tables.{Tables, heldCount, encode, decode}
+use Rattle.model.specs.Tables.{column, blocks, Tables, heldCount, encode, decode}
 use Rattle.model.specs.Sound.{AllSound, Sound}
+use Rattle.model.proofs.Blocks.{column-get, Fits, blocks-at}
 use Rattle.model.proofs.Form.{facts}
 use Rattle.model.proofs.Cabinet.{length-putAt, withHistory-history}
 use Rattle.model.proofs.Keeps.{keeps-length, history-sound}
 use Rattle.model.proofs.Order.{changesAt-length}
-use Rattle.model.proofs.Tables.{reads-at, writes-at}
-use Rattle.search.proofs.Model.{historyIn, held-changes, history-length, place-of}
-use Rattle.marking.specs.Marks.{columnsOf, listAt, writesSetting, markedSettings, followed, AllSettings, Walkable}
+use Rattle.model.proofs.Tables.{reads-fit, writes-fit, settings-fit, values-fit, reads-at, writes-at}
+use Rattle.search.specs.Searches.{OfSettings}
+use Rattle.search.proofs.Model.{tested-settings, historyIn, held-changes, history-length, place-of}
+use Rattle.marking.specs.Marks.{columnsOf, listAt, writesSetting, markedSettings, followed, EmptyBehind, Walkable}
 use Rattle.marking.specs.Uses.{Numbers, LastUses, ReadersEnd, WritersEnd, Settled, Uses, Noted, Notable, UsesNoted, Markable}
 use Rattle.marking.proofs.LastUses.{readers-end, writers-end, settled-none}
 use Rattle.marking.proofs.LiveSets.{writes-one, writtenIn, live-unwritten, written-some, written-none, Agree, mark-agrees}
@@ -37,13 +39,37 @@ use Rattle.marking.proofs.View.{view-of}
 
 -- ---- what the code relies on
 
-settings-below : (l : List ℕ) → distinctSettings l ≡ true → AllSettings l
-settings-below [] e j h = absurd (omega arith)
-settings-below (s ∷ l) e zero h = ltb-true s settingCount (both (ltb s settingCount) e .0)
-settings-below (s ∷ l) e (suc j) h = settings-below l (both (not (holds s l)) (both (ltb s settingCount) e .1) .1) j (omega arith)
+-- the slots of every place behind its lists hold 0
+pub record EmptyRests (T : Tables) : Type 0 where
+  pub sources : (i : ℕ) → EmptyBehind 0 (T .reads) (T .sources) i
+  pub seen : (i : ℕ) → EmptyBehind (pos 0) (T .reads) (T .seen) i
+  pub targets : (i : ℕ) → EmptyBehind 0 (T .writes) (T .targets) i
+  pub written : (i : ℕ) → EmptyBehind (pos 0) (T .writes) (T .written) i
 
-no-settings : (counts settings : List ℕ) (i : ℕ) → getD counts i 0 ≡ 0 → AllSettings (listAt counts settings i)
-no-settings counts settings i e = rw e (λ j h. absurd (omega arith))
+module _ (n : ℕ) (field : Change → List Entry) (b : field blank ≡ []) (changes : List Change) where
+  empty-rest : {A : Type 0} (z : A) (part : Entry → A) → Fits 32 (λ d. map part (field d)) changes → (i : ℕ) → EmptyBehind z (column n 0 (λ d. length (field d)) changes) (blocks n 32 z (λ d. map part (field d)) changes) i
+  empty-rest z part k i j h q =
+      let list = field (getD changes i blank) in
+      blocks-at n 32 z (λ d. map part (field d)) (ap (map part) b) changes i j k q
+      ∙ List·getD-eq-default (map part list) z {n = j} (omega (arith, h, length-map list part, column-get n 0 (λ d. length (field d)) changes i (ap length b)))
+
+encode-rests : {n : ℕ} {c : Cabinet} → Sound n c → EmptyRests (encode n c)
+unfolding encode
+encode-rests {n} {c} s =
+    let reads = reads-fit (c .changes) (s .each) in
+    let writes = writes-fit (c .changes) (s .each) in
+    record {
+      sources = empty-rest n (λ d. lists d .reads) refl (c .changes) 0 (λ (e : Entry). e .setting) (settings-fit (λ d. lists d .reads) (c .changes) reads);
+      seen = empty-rest n (λ d. lists d .reads) refl (c .changes) (pos 0) (λ (e : Entry). e .value) (values-fit (λ d. lists d .reads) (c .changes) reads);
+      targets = empty-rest n (λ d. lists d .writes) refl (c .changes) 0 (λ (e : Entry). e .setting) (settings-fit (λ d. lists d .writes) (c .changes) writes);
+      written = empty-rest n (λ d. lists d .writes) refl (c .changes) (pos 0) (λ (e : Entry). e .value) (values-fit (λ d. lists d .writes) (c .changes) writes);
+    }
+
+pub empty-rests : {n : ℕ} {T : Tables} → Formed n T → EmptyRests T
+empty-rests g = subst EmptyRests (facts g .laid) (encode-rests (facts g .sound))
+
+no-settings : (counts settings : List ℕ) (i : ℕ) → getD counts i 0 ≡ 0 → OfSettings (listAt counts settings i)
+no-settings counts settings i e = rw e (record { below = λ j h. absurd (omega arith) })
 
 module _ {n : ℕ} {T : Tables} (g : Formed n T) where
   -- a place that is not held has empty lists
@@ -65,8 +91,8 @@ module _ {n : ℕ} {T : Tables} (g : Formed n T) where
   short-lists i (yes h) = (facts g .form .reads i h .short, facts g .form .writes i h .short)
   short-lists i (no h) = let e = unheld i h in (omega arith, omega arith)
 
-  list-settings : (i : ℕ) → Dec (i < heldCount T) → AllSettings (listAt (T .reads) (T .sources) i) × AllSettings (listAt (T .writes) (T .targets) i)
-  list-settings i (yes h) = (settings-below (listAt (T .reads) (T .sources) i) (facts g .form .reads i h .distinct), settings-below (listAt (T .writes) (T .targets) i) (facts g .form .writes i h .distinct))
+  list-settings : (i : ℕ) → Dec (i < heldCount T) → OfSettings (listAt (T .reads) (T .sources) i) × OfSettings (listAt (T .writes) (T .targets) i)
+  list-settings i (yes h) = (tested-settings _ (facts g .form .reads i h .distinct), tested-settings _ (facts g .form .writes i h .distinct))
   list-settings i (no h) = let e = unheld i h in (no-settings (T .reads) (T .sources) i (e .0), no-settings (T .writes) (T .targets) i (e .1))
 
   -- for `last_uses` and `mark_setting`
@@ -82,6 +108,8 @@ module _ {n : ℕ} {T : Tables} (g : Formed n T) where
         write-slots = omega (arith, l .status, l .targets);
         reads-short = λ i h. short-lists i (decLt i (heldCount T)) .0;
         writes-short = λ i h. short-lists i (decLt i (heldCount T)) .1;
+        read-rest = λ i h. empty-rests g .sources i;
+        write-rest = λ i h. empty-rests g .targets i;
         read-settings = λ i h. list-settings i (decLt i (heldCount T)) .0;
         write-settings = λ i h. list-settings i (decLt i (heldCount T)) .1;
       }
@@ -187,7 +215,7 @@ module _ {n : ℕ} {T : Tables} (g : Formed n T) (k : ℕ) (changed : List ℕ) 
   later-length = length-drop (suc k) (historyIn T) ∙ ap (_- suc k) (history-length g)
 
   -- the tables with the later changes marked
-  pub marked-tables : AllSettings changed → {readers status : List ℕ} → ReadersEnd (k + 1) (heldCount T) (columnsOf T) (T .status) readers → status ≡ markedSettings (columnsOf T) readers (k + 1) changed (T .status) → withStatus T status ≡ encode n (withHistory (decode T) (take (suc k) (historyIn T) ++ markLive f later) (T .view))
+  pub marked-tables : OfSettings changed → {readers status : List ℕ} → ReadersEnd (k + 1) (heldCount T) (columnsOf T) (T .status) readers → status ≡ markedSettings (columnsOf T) readers (k + 1) changed (T .status) → withStatus T status ≡ encode n (withHistory (decode T) (take (suc k) (historyIn T) ++ markLive f later) (T .view))
   marked-tables a {readers} {status} r e =
       let laid = facts g .laid in
       let r' = subst (λ (U : Tables). ReadersEnd (suc k) (heldCount U) (columnsOf U) (U .status) readers) (sym laid) (rw add-one at r) in
@@ -233,7 +261,7 @@ module _ {n : ℕ} {T : Tables} (g : Formed n T) (k : ℕ) (changed : List ℕ) 
 
   module _ (h : k < heldCount T) (new : Change) (view : List ℤ) {readers writers settled : List ℕ} (u : Uses (k + 1) T readers writers settled) where
     -- the change at the position replaced, the later ones marked, and what is settled then
-    pub uses-turned : AllSettings changed → {settled' status : List ℕ} → status ≡ markedSettings (columnsOf T) readers (k + 1) changed (T .status) → Settled (k + 1) (columnsOf T) status readers settled' → Sound n (withHistory (decode T) (take k (historyIn T) ++ new ∷ markLive f later) view) → Uses (k + 1 + 1) (encode n (withHistory (decode T) (take k (historyIn T) ++ new ∷ markLive f later) view)) readers writers settled'
+    pub uses-turned : OfSettings changed → {settled' status : List ℕ} → status ≡ markedSettings (columnsOf T) readers (k + 1) changed (T .status) → Settled (k + 1) (columnsOf T) status readers settled' → Sound n (withHistory (decode T) (take k (historyIn T) ++ new ∷ markLive f later) view) → Uses (k + 1 + 1) (encode n (withHistory (decode T) (take k (historyIn T) ++ new ∷ markLive f later) view)) readers writers settled'
     uses-turned a {settled'} e d s =
         let marked = take (suc k) (historyIn T) ++ markLive f later in
         let c = withHistory (decode T) marked (T .view) in

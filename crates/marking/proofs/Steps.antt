@@ -1,15 +1,15 @@
 -- One step of each loop.
-use mathlib.Core.Path.{_≡_, sym, ap, _∙_}
+use mathlib.Core.Path.{_≡_, refl, sym, ap, _∙_}
 use mathlib.Core.Bool.{Bool, true, false, cond, _||_, or-assoc, or-false}
-use mathlib.Core.List.{List}
-use Prim.Native.Nat.{ℕ, suc, _+_, _-_, _*_, _<_, _≤_}
+use mathlib.Core.List.{List, [], _∷_}
+use Prim.Native.Nat.{ℕ, zero, suc, _+_, _-_, _*_, _<_, _≤_}
 use native.Mathlib.Numerals.{add-one}
 use native.Mathlib.Omega.{arith}
 use borrow.Author.Tests.{ne-eqb, le-leb, lt-leb}
 use lib.Dec.{eqb, leb}
 use lib.IntN.{ℤ}
 use lib.ListN.{length, getD, set, take, drop, drop-of-length-le}
-use lib.Seq.{drop-cons}
+use lib.Seq.{drop-cons, getD-drop}
 use Rattle.machine.specs.Settings.{valueIn}
 use Rattle.model.specs.Form.{holds}
 use Rattle.marking.proofs.Walks.{place-length}
@@ -34,6 +34,24 @@ lent-list place counts settings =
     let e : 32 * place + getD counts place 0 - 32 * place ≡ getD counts place 0 = omega arith in
     ap (λ (m : ℕ). take m (drop (32 * place) settings)) e
 
+-- zeros behind a list name no setting but 0
+zeros-name : (s : ℕ) → (s ≡ 0 → ⊥) → (count m : ℕ) (l : List ℕ) → count ≤ m → ((j : ℕ) → count ≤ j → j < m → getD l j 0 ≡ 0) → holds s (take m l) ≡ holds s (take count l)
+zeros-name s n zero zero l h z = refl
+zeros-name s n zero (suc m) [] h z = refl
+zeros-name s n zero (suc m) (x ∷ l) h z =
+    let none : eqb x s ≡ false = ne-eqb x s (λ e. n (sym e ∙ z 0 (omega arith) (omega arith))) in
+    rw none (zeros-name s n zero m l (omega arith) (λ j a b. z (suc j) (omega arith) (omega arith)))
+zeros-name s n (suc count) zero l h z = absurd (omega arith)
+zeros-name s n (suc count) (suc m) [] h z = refl
+zeros-name s n (suc count) (suc m) (x ∷ l) h z = ap (eqb x s ||_) (zeros-name s n count m l (omega arith) (λ j a b. z (suc j) (omega arith) (omega arith)))
+
+-- so the 32 slots of a place, as they are lent, tell of such a setting what the list tells
+pub lent-slots : (s place : ℕ) (counts settings : List ℕ) → (s ≡ 0 → ⊥) → Listed place counts settings → holds s (take (32 * place + 32 - 32 * place) (drop (32 * place) settings)) ≡ holds s (listAt counts settings place)
+lent-slots s place counts settings n l =
+    let e : 32 * place + 32 - 32 * place ≡ 32 = omega arith in
+    ap (λ (m : ℕ). holds s (take m (drop (32 * place) settings))) e
+    ∙ zeros-name s n (getD counts place 0) 32 (drop (32 * place) settings) (l .short) (λ j a b. getD-drop (32 * place) settings j 0 ∙ l .rest j a b)
+
 -- ---- a place marked
 
 module _ (s place : ℕ) (counts sources status : List ℕ) where
@@ -53,12 +71,12 @@ module _ {C : Columns} {places : ℕ} (w : Walkable C places) (p : ℕ) where
   pub reads-listed : Listed (getD (C .order) p 0) (C .reads) (C .sources)
   reads-listed =
       let h = w .below p in
-      record { counted = omega (arith, w .read-counts); room = omega (arith, w .read-slots, w .reads-short _ h) }
+      record { counted = omega (arith, w .read-counts); short = w .reads-short _ h; room = omega (arith, w .read-slots); rest = w .read-rest _ h }
 
   pub writes-listed : Listed (getD (C .order) p 0) (C .writes) (C .targets)
   writes-listed =
       let h = w .below p in
-      record { counted = omega (arith, w .write-counts); room = omega (arith, w .write-slots, w .writes-short _ h) }
+      record { counted = omega (arith, w .write-counts); short = w .writes-short _ h; room = omega (arith, w .write-slots); rest = w .write-rest _ h }
 
 -- from position p up to end the definitions give what they give of the whole walk
 pub record Walked (C : Columns) (s from to : ℕ) (status₀ status : List ℕ) (p end : ℕ) : Type 0 where

@@ -1,13 +1,15 @@
 -- What marking and the view are, setting by setting, as functions of the lent lists.
+use mathlib.Core.Path.{_≡_}
 use mathlib.Core.Bool.{Bool, cond, _&&_}
 use mathlib.Core.List.{List, [], _∷_}
 use Prim.Native.Nat.{ℕ, zero, suc, _+_, _-_, _*_, _<_, _≤_}
 use lib.Dec.{eqb, leb}
 use lib.IntN.{ℤ}
 use lib.ListN.{length, getD, set}
-use Rattle.machine.specs.Settings.{settingCount, valueIn}
+use Rattle.machine.specs.Settings.{valueIn}
 use Rattle.model.specs.Form.{holds}
 use Rattle.model.specs.Tables.{Tables, slots}
+use Rattle.search.specs.Searches.{OfSettings}
 
 -- the order list, and the counts and the settings of the read and write lists by place
 pub record Columns : Type 0 where
@@ -69,16 +71,18 @@ followed writers from values (s ∷ changed) view =
 
 -- ---- what the code relies on
 
+-- the slots of a place behind its list hold 0
+abbrev pub EmptyBehind : {A : Type 0} → A → List ℕ → List A → ℕ → Type 0
+EmptyBehind z counts l place = (j : ℕ) → getD counts place 0 ≤ j → j < 32 → getD l (32 * place + j) z ≡ z
+
 -- the list of a place stands in the table
 pub record Listed (place : ℕ) (counts settings : List ℕ) : Type 0 where
   pub counted : place < length counts
-  pub room : 32 * place + getD counts place 0 ≤ length settings
+  pub short : getD counts place 0 ≤ 32
+  pub room : 32 * place + 32 ≤ length settings
+  pub rest : EmptyBehind 0 counts settings place
 
--- settings below 1,024
-abbrev pub AllSettings : List ℕ → Type 0
-AllSettings l = (j : ℕ) → j < length l → getD l j 0 < settingCount
-
--- places that the tables have (a position that is not held has the first), counts of at most 32, settings below 1,024
+-- places that the tables have (a position that is not held has the first), counts of at most 32, 0 behind the lists, settings below 1,024
 pub record Walkable (C : Columns) (places : ℕ) : Type 0 where
   pub small : places ≤ 4096
   pub below : (p : ℕ) → getD (C .order) p 0 < places
@@ -88,5 +92,7 @@ pub record Walkable (C : Columns) (places : ℕ) : Type 0 where
   pub write-slots : 32 * places ≤ length (C .targets)
   pub reads-short : (i : ℕ) → i < places → getD (C .reads) i 0 ≤ 32
   pub writes-short : (i : ℕ) → i < places → getD (C .writes) i 0 ≤ 32
-  pub read-settings : (i : ℕ) → i < places → AllSettings (listAt (C .reads) (C .sources) i)
-  pub write-settings : (i : ℕ) → i < places → AllSettings (listAt (C .writes) (C .targets) i)
+  pub read-rest : (i : ℕ) → i < places → EmptyBehind 0 (C .reads) (C .sources) i
+  pub write-rest : (i : ℕ) → i < places → EmptyBehind 0 (C .writes) (C .targets) i
+  pub read-settings : (i : ℕ) → i < places → OfSettings (listAt (C .reads) (C .sources) i)
+  pub write-settings : (i : ℕ) → i < places → OfSettings (listAt (C .writes) (C .targets) i)

@@ -4,6 +4,7 @@ ghost use Prim.Native.Nat.{_+_, _-_, _<_, _≤_};
 ghost use lib.ListN.{length, getD};
 ghost use Rattle.machine.specs.Settings.{settingCount};
 ghost use Rattle.model.specs.Form.{holds};
+ghost use Rattle.search.specs.Searches.{OfSettings};
 ghost use Rattle.marking.specs.Marks as marks;
 ghost use Rattle.marking.specs.Uses as uses;
 
@@ -20,14 +21,17 @@ fn names_setting(s: u16, settings: &[u16]) -> bool
     found
 }
 
-// Whether the list of a place names a setting.
+// Whether the list of a place names a setting. Slots behind the list hold 0, so a setting other than 0 is looked for in all 32: a loop of known length is the faster one.
 fn names_at(s: u16, place: usize, counts: &[u16], settings: &[u16]) -> bool
     requires { ⌜ marks.Listed place (now counts) (now settings) ⌝ }
     ensures { λ r. ⌜ r ≡ holds s (marks.listAt (now (counts .entry)) (now (settings .entry)) place) ⌝ }
 {
     let begin = 32 * place;
-    let end = begin + counts[place] as usize;
-    names_setting(s, &settings[begin..end])
+    if s == 0 {
+        let end = begin + counts[place] as usize;
+        return names_setting(s, &settings[begin..end]);
+    }
+    names_setting(s, &settings[begin..begin + 32])
 }
 
 // A Valid change that reads a setting becomes Invalid. Whether it writes the setting.
@@ -144,7 +148,7 @@ pub fn mark_settings(
 )
     requires { ⌜
         (let C = marks.columns (now order) (now reads) (now sources) (now writes) (now targets) in
-        (k < 4096) × marks.AllSettings (now changed) × uses.Markable (k + 1) C (now status) (now readers) (now settled))
+        (k < 4096) × OfSettings (now changed) × uses.Markable (k + 1) C (now status) (now readers) (now settled))
         ⌝ }
     ensures { λ _. ⌜
         (let C =
@@ -180,7 +184,7 @@ pub fn follow_view(
     after: &[i32; 1024],
     view: &mut [i32],
 )
-    requires { ⌜ (k < 4096) × marks.AllSettings (now changed) × (length (now view) ≡ settingCount) ⌝ }
+    requires { ⌜ (k < 4096) × OfSettings (now changed) × (length (now view) ≡ settingCount) ⌝ }
     ensures { λ _. ⌜
         now (view .exit)
         ≡ marks.followed (now (writers .entry)) (k + 1) (now (after .entry)) (now (changed .entry)) (now (view .entry))
@@ -199,7 +203,7 @@ pub fn follow_view(
 
 // A number stored for each setting of a list.
 fn note_list(settings: &[u16], number: u16, numbers: &mut [u16; 1024])
-    requires { ⌜ marks.AllSettings (now settings) ⌝ }
+    requires { ⌜ OfSettings (now settings) ⌝ }
     ensures { λ _. ⌜ now (numbers .exit) ≡ uses.numbered (now (settings .entry)) number (now (numbers .entry)) ⌝ }
 {
     let mut j = 0;
@@ -212,7 +216,7 @@ fn note_list(settings: &[u16], number: u16, numbers: &mut [u16; 1024])
 // A number stored for each setting of a place's list.
 fn note_at(place: usize, number: u16, counts: &[u16], settings: &[u16], numbers: &mut [u16; 1024])
     requires { ⌜ marks.Listed place (now counts) (now settings)
-        × marks.AllSettings (marks.listAt (now counts) (now settings) place) ⌝ }
+        × OfSettings (marks.listAt (now counts) (now settings) place) ⌝ }
     ensures { λ _. ⌜ now (numbers .exit)
         ≡ uses.numbered (marks.listAt (now (counts .entry)) (now (settings .entry)) place) number (now (numbers .entry)) ⌝ }
 {

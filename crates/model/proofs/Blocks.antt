@@ -4,8 +4,8 @@ use mathlib.Core.List.{List, [], _∷_, _++_, map, append-assoc, map-append}
 use Prim.Native.Nat.{ℕ, zero, suc, _+_, _-_, _*_, _≤_, _<_}
 use native.Mathlib.Nat.{mul-le-mul-left}
 use native.Mathlib.Omega.{arith}
-use lib.ListN.{length, getD, set, take, drop, replicate, length-append, length-drop, length-set, length-map, length-replicate, take-append-drop, replicate-append-replicate, List·getD-map}
-use lib.Seq.{take-at, drop-at, set-append-seam, set-append-left, set-split, split-at, append-snoc, take-append-seam, drop-append-seam, getD-take, getD-drop, length-take-le, drop-drop, take-add, ext-getD}
+use lib.ListN.{length, getD, set, take, drop, replicate, length-append, length-drop, length-set, length-map, length-replicate, take-append-drop, replicate-append-replicate, List·getD-map, List·getD-append}
+use lib.Seq.{take-at, drop-at, set-append-seam, set-append-left, set-split, split-at, append-snoc, take-append-seam, drop-append-seam, getD-append-add, getD-take, length-take-le, drop-drop, take-add, ext-getD}
 use Rattle.model.specs.History.{Change}
 use Rattle.model.specs.Cabinet.{blank}
 use Rattle.model.specs.Tables.{pad, column, padded, blocks, slots}
@@ -138,6 +138,19 @@ module _ {A : Type 0} (n width : ℕ) (z : A) (f : Change → List A) where
   pub blocks-same : (a b : List Change) → map f a ≡ map f b → blocks n width z f a ≡ blocks n width z f b
   blocks-same a b e = ap (pad (width * n) z) (padded-same a b e)
 
+  padded-at : f blank ≡ [] → (changes : List Change) (i j : ℕ) → Fits width f changes → j < width → getD (padded width z f changes) (width * i + j) z ≡ getD (f (getD changes i blank)) j z
+  padded-at b [] i j k q = rw b
+  padded-at b (c ∷ changes) zero j k q =
+      let here : width * 0 + j ≡ j = omega arith in
+      rw (here, List·getD-append (pad width z (f c)) (padded width z f changes) z j (rw (pad-length width z (f c) (k .0)) q)) (pad-get width z (f c) j)
+  padded-at b (c ∷ changes) (suc i) j k q =
+      let later : width * suc i + j ≡ length (pad width z (f c)) + (width * i + j) = omega (arith, pad-length width z (f c) (k .0)) in
+      rw (later, getD-append-add (pad width z (f c))) (padded-at b changes i j (k .1) q)
+
+  -- a slot of a place, held or not
+  pub blocks-at : f blank ≡ [] → (changes : List Change) (i j : ℕ) → Fits width f changes → j < width → getD (blocks n width z f changes) (width * i + j) z ≡ getD (f (getD changes i blank)) j z
+  blocks-at b changes i j k q = pad-get (width * n) z (padded width z f changes) (width * i + j) ∙ padded-at b changes i j k q
+
   -- zeros behind the held places
   pub blocks-rest : (changes : List Change) → Fits width f changes → drop (width * length changes) (blocks n width z f changes) ≡ replicate (width * n - width * length changes) z
   blocks-rest changes k = rw (drop-at (padded width z f changes) _ (width * length changes) (padded-length changes k), padded-length changes k)
@@ -171,11 +184,7 @@ module _ {A : Type 0} (n width : ℕ) (z : A) (f : Change → List A) where
     from-slots : drop (width * i) (blocks n width z f changes) ≡ f (getD changes i blank) ++ (replicate (width - length (f (getD changes i blank))) z ++ behind (length (take i changes)) (drop (suc i) changes))
     from-slots = from-place ∙ append-assoc (f (getD changes i blank)) _ _
 
-    -- the block of a place
-    pub blocks-block : slots width i width (blocks n width z f changes) ≡ pad width z (f (getD changes i blank))
-    blocks-block = ap (take width) from-place ∙ take-at (pad width z (f (getD changes i blank))) _ width block-length
-
-    -- its used slots
+    -- the used slots of a place
     pub blocks-slots : slots width i (length (f (getD changes i blank))) (blocks n width z f changes) ≡ f (getD changes i blank)
     blocks-slots = rw (from-slots, take-append-seam)
 
@@ -184,12 +193,6 @@ module _ {A : Type 0} (n width : ℕ) (z : A) (f : Change → List A) where
     blocks-unused =
         let used = length (f (getD changes i blank)) in
         rw (← drop-drop used (width * i), from-slots, drop-append-seam) (take-at (replicate (width - used) z) _ (width - used) (length-replicate (width - used) z))
-
-    -- one slot
-    pub blocks-get : (j : ℕ) → j < width → getD (blocks n width z f changes) (width * i + j) z ≡ getD (f (getD changes i blank)) j z
-    blocks-get j q =
-        rw (← getD-drop (width * i) (blocks n width z f changes) j z, ← getD-take width (drop (width * i) (blocks n width z f changes)) j z q, blocks-block)
-        (pad-get width z (f (getD changes i blank)) j)
 
     -- one change replaced is one block overwritten
     pub blocks-set : (c : Change) → length (f c) ≤ width → blocks n width z f (set changes i c) ≡ take (width * i) (blocks n width z f changes) ++ pad width z (f c) ++ drop (width * i + width) (blocks n width z f changes)

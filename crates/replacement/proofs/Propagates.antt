@@ -10,7 +10,7 @@ use Rattle.search.specs.Searches.{OfSettings}
 use Rattle.values.specs.Values.{restored}
 use Rattle.values.proofs.Parts.{first-part}
 use Rattle.values.proofs.Replaced.{Replacing, restored-known}
-use Rattle.marking.specs.Marks.{Columns, AllSettings, markedSettings, followed}
+use Rattle.marking.specs.Marks.{Columns, markedSettings, followed}
 use Rattle.marking.specs.Uses.{Settled}
 use Rattle.acts.specs.Altered.{Altered}
 use Rattle.replacement.specs.Replaced.{valuesAt, writesAt, Propagated}
@@ -30,9 +30,6 @@ module _ {old new : List Entry} {env : Environment} {earlier known : List ℕ} {
   pub firsts-settings : OfSettings (firsts count list)
   firsts-settings = subst OfSettings (sym (first-part count list)) (a .settings)
 
-  pub all-settings : AllSettings (firsts count list)
-  all-settings = firsts-settings .below
-
   replacing : Replacing (writing old) (writing new) env known before after'
   replacing = record { sizes = a .sizes; before-is = a .before-is; after-is = a .after-is; old-known = a .old-known; new-known = a .new-known }
 
@@ -47,7 +44,7 @@ propagated {k} {C} {readers = readers} {writers} {status} {before = before} {aft
     let same = first-part count list in
     record {
       changed = take count list;
-      settings = a .settings .below;
+      settings = a .settings;
       differing = a .differing;
       renewed = a .renewed;
       marked = m .0 ∙ ap (λ (l : List ℕ). markedSettings C readers (k + 1) l status) same;

@@ -14,7 +14,7 @@ use Rattle.model.specs.Form.{holds}
 use Rattle.model.specs.Tables.{slots, listIn, programIn}
 use Rattle.search.specs.Searches.{OfSettings}
 use Rattle.values.specs.Values.{valuesBelow, Known, Lookable}
-use Rattle.marking.specs.Marks.{Columns, AllSettings, markedSettings, followed}
+use Rattle.marking.specs.Marks.{Columns, markedSettings, followed}
 use Rattle.marking.specs.Uses.{Settled, Markable}
 use Rattle.storing.specs.Stored.{NewLists, newLists, ListsStorable, ListsPut}
 use Rattle.acts.specs.declared.Act.{Act}
@@ -41,7 +41,7 @@ pub record Propagable (k : ℕ) (C : Columns) (written : List ℤ) (size : ℕ) 
 -- of the settings that change, later readers are marked and the view follows; the values are those after the new writes
 pub record Propagated (k : ℕ) (C : Columns) (written : List ℤ) (new : List Entry) (readers writers status : List ℕ) (view : List ℤ) (status' : List ℕ) (view' : List ℤ) (settled' known' : List ℕ) (before' after' : List ℤ) : Type 0 where
   pub changed : List ℕ
-  pub settings : AllSettings changed
+  pub settings : OfSettings changed
   pub differing : (x : ℕ) → x < settingCount → holds x changed ≡ not (eqZ (after (writesAt C written k) (valuesAt C written k) x) (after new (valuesAt C written k) x))
   pub renewed : (x : ℕ) → x < settingCount → holds x changed ≡ true → valueIn after' x ≡ after new (valuesAt C written k) x
   pub marked : status' ≡ markedSettings C readers (k + 1) changed status

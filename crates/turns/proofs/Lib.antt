@@ -1,6 +1,5 @@
 pub mod Acts
 pub mod Replaced
-pub mod Unused
 pub mod Relied
 pub mod Model
 pub mod Outcomes

@@ -1,7 +1,7 @@
 -- What the code of a turn relies on at a position of tables in form.
 use mathlib.Core.Path.{_≡_, sym, _∙_}
 use mathlib.Core.List.{List}
-use Prim.Native.Nat.{ℕ, _+_, _*_, _<_, _≤_}
+use Prim.Native.Nat.{ℕ, _+_, _<_, _≤_}
 use native.Mathlib.Omega.{arith}
 use lib.IntN.{ℤ}
 use lib.ListN.{length, getD}
@@ -16,9 +16,8 @@ use Rattle.acts.specs.Acts.{Positioned, Decidable, Runnable}
 use Rattle.storing.specs.Stored.{NewLists, ListsStorable}
 use Rattle.marking.specs.Marks.{columnsOf}
 use Rattle.marking.specs.Uses.{Uses}
-use Rattle.marking.proofs.Model.{markable}
+use Rattle.marking.proofs.Model.{empty-rests, markable}
 use Rattle.replacement.specs.Replaced.{Fitting, Replaceable}
-use Rattle.turns.proofs.Unused.{settings-unused, values-unused}
 
 -- a position of the order list and its place are within the tables
 pub record Slots (T : Tables) (k : ℕ) : Type 0 where
@@ -94,24 +93,21 @@ module _ {n : ℕ} {T : Tables} (g : Formed n T) (k : ℕ) (h : k < heldCount T)
   storable l f =
       let z = facts g .sizes in
       let p = at-place (z .writes) in
-      let source-room : 32 * place + 32 ≤ length (T .sources) = omega (arith, place-held, facts g .form .small, z .sources) in
-      let seen-room : 32 * place + 32 ≤ length (T .seen) = omega (arith, place-held, facts g .form .small, z .seen) in
-      let target-room : 32 * place + 32 ≤ length (T .targets) = omega (arith, place-held, facts g .form .small, z .targets) in
-      let value-room : 32 * place + 32 ≤ length (T .written) = omega (arith, place-held, facts g .form .small, z .written) in
-      let read = facts g .form .reads place place-held in
-      let wrote = facts g .form .writes place place-held in
+      let read-short = facts g .form .reads place place-held .short in
+      let write-short = facts g .form .writes place place-held .short in
+      let rests = empty-rests g in
       record {
         read =
             record {
               counted = omega (arith, place-held, facts g .form .small, z .reads);
-              of-settings = record { small = omega (arith, p .place, p .small); short = f .reads; old-short = read .short; long = omega (arith, f .sources); room = source-room; unused = settings-unused read source-room };
-              of-values = record { small = omega (arith, p .place, p .small); short = f .reads; old-short = read .short; long = omega (arith, f .seen); room = seen-room; unused = values-unused read seen-room };
+              of-settings = record { small = omega (arith, p .place, p .small); short = f .reads; old-short = read-short; long = omega (arith, f .sources); room = omega (arith, place-held, facts g .form .small, z .sources); unused = record { empty = rests .sources place } };
+              of-values = record { small = omega (arith, p .place, p .small); short = f .reads; old-short = read-short; long = omega (arith, f .seen); room = omega (arith, place-held, facts g .form .small, z .seen); unused = record { empty = rests .seen place } };
             };
         wrote =
             record {
               counted = p .place;
-              of-settings = record { small = omega (arith, p .place, p .small); short = f .writes; old-short = wrote .short; long = omega (arith, f .targets); room = target-room; unused = settings-unused wrote target-room };
-              of-values = record { small = omega (arith, p .place, p .small); short = f .writes; old-short = wrote .short; long = omega (arith, f .written); room = value-room; unused = values-unused wrote value-room };
+              of-settings = record { small = omega (arith, p .place, p .small); short = f .writes; old-short = write-short; long = omega (arith, f .targets); room = omega (arith, place-held, facts g .form .small, z .targets); unused = record { empty = rests .targets place } };
+              of-values = record { small = omega (arith, p .place, p .small); short = f .writes; old-short = write-short; long = omega (arith, f .written); room = omega (arith, place-held, facts g .form .small, z .written); unused = record { empty = rests .written place } };
             };
       }
 

@@ -24,7 +24,7 @@ start c = c .before .before .before
 
 -- the setting of a turn
 within : (c : tie.In-loop Inv-loop μ-loop) → getD (start c .args .changed .now) (c .before .loop .i) 0 < settingCount
-within c = start c .pre .1 (c .before .loop .i) (c .loop-test .taken)
+within c = start c .pre .1 .below (c .before .loop .i) (c .loop-test .taken)
 
 loop-again : tie.Need-loop-again Inv-loop μ-loop
 loop-again c =

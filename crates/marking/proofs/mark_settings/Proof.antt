@@ -20,7 +20,7 @@ mark-unsettled-requires : tie.Need-mark-unsettled-requires Inv-loop μ-loop
 mark-unsettled-requires c κs =
     let l = c .before .before .before .before .loop in
     let t = c .before .before .before .before .before .before .before .before .before .before .before .before in
-    (t .pre .1 (l .i) (c .before .before .before .loop-test .taken), markable-again (l .inv) (t .pre .2))
+    (t .pre .1 .below (l .i) (c .before .before .before .loop-test .taken), markable-again (l .inv) (t .pre .2))
 
 loop-again : tie.Need-loop-again Inv-loop μ-loop
 loop-again c =

@@ -3,7 +3,7 @@ use mathlib.Core.Path.{ap, sym, subst, _∙_}
 use mathlib.Core.List.{List}
 use Prim.Native.Nat.{ℕ}
 use borrow.Author.Needs.{needs}
-use Rattle.marking.specs.Marks.{AllSettings}
+use Rattle.search.specs.Searches.{OfSettings}
 use Rattle.marking.specs.Uses.{numbered}
 use Rattle.marking.proofs.Steps.{lent-list}
 use Rattle.marking.proofs.note_at.Statement.{statement}
@@ -12,7 +12,7 @@ use Rattle.marking.proofs.note_at.Tie as tie
 note-list-requires : tie.Need-note-list-requires
 note-list-requires c κs =
     let a = c .before .before .before .before .before .args in
-    subst AllSettings (sym (lent-list (a .place) (a .counts .now) (a .settings .now))) (c .before .before .before .before .before .pre .1)
+    subst OfSettings (sym (lent-list (a .place) (a .counts .now) (a .settings .now))) (c .before .before .before .before .before .pre .1)
 
 returns : tie.Need-returns
 returns c =

@@ -36,8 +36,8 @@ note-list-spec =
     (λ c. search needs)
     (λ c. search needs)
     (λ c. omega (arith, c .shared-slice-known .given (c .before .before .loop .j)))
-    (λ c. omega (arith, c .before .before .before .pre (c .before .before .loop .j) (c .before .loop-test .taken)))
-    (λ c. c .before .before .before .pre (c .before .before .loop .j) (c .before .loop-test .taken))
+    (λ c. omega (arith, c .before .before .before .pre .below (c .before .before .loop .j) (c .before .loop-test .taken)))
+    (λ c. c .before .before .before .pre .below (c .before .before .loop .j) (c .before .loop-test .taken))
     (λ c. search needs)
     (λ c. search needs)
     loop-again

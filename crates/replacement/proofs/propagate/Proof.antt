@@ -1,89 +1,63 @@
-use Rattle.replacement.proofs.Propagates.{firsts-room, firsts-settings, all-settings, propagated}
+-- `replacement::propagate` meets its contract: altered, then marked, followed and restored. Assumes nothing.
 use borrow.Author.Needs.{needs}
+use Rattle.replacement.proofs.Propagates.{firsts-room, firsts-settings, propagated}
 use Rattle.replacement.proofs.propagate.Statement.{statement}
 use Rattle.replacement.proofs.propagate.Tie as tie
 
--- src/lib.rt:51:9
-alter-requires : tie.Need-alter-requires
-alter-requires c κs = search needs
+-- from a call, or the loop, to what stood before it
+abbrev before-alter : tie.After-alter → tie.Start
+before-alter c = c .before .before .before .before .before .before .before .before .before .before .before .before
 
--- src/lib.rt:66:9
-sub-mark-settings : tie.Need-sub-mark-settings
-sub-mark-settings c = search needs
+abbrev before-mark-settings : tie.After-mark-settings → tie.After-alter
+before-mark-settings c = c .before .before .before .before .before
 
--- src/lib.rt:66:9
-part-mark-settings-start : tie.Need-part-mark-settings-start
-part-mark-settings-start c = search needs
+abbrev before-follow-view : tie.After-follow-view → tie.After-mark-settings
+before-follow-view c = c .before .before .before .before .before .before .before
 
--- src/lib.rt:66:9
-part-mark-settings-end : tie.Need-part-mark-settings-end
-part-mark-settings-end c = firsts-room (c .before .alter .ensures)
-
--- src/lib.rt:65:5
 mark-settings-requires : tie.Need-mark-settings-requires
-mark-settings-requires c κs = let p = c .before .before .before .before .before .before .before .before .before .before .before .before .before .before .before .before .pre in (p .small, all-settings (c .before .before .before .before .alter .ensures), p .markable)
+mark-settings-requires c κs =
+    let at-alter = c .before .before .before .before in
+    let start = before-alter at-alter in
+    let p = start .pre in (p .small, firsts-settings (at-alter .alter .ensures), p .markable)
 
--- src/lib.rt:77:17
-sub-follow-view : tie.Need-sub-follow-view
-sub-follow-view c = search needs
-
--- src/lib.rt:77:17
-part-follow-view-start : tie.Need-part-follow-view-start
-part-follow-view-start c = search needs
-
--- src/lib.rt:77:17
-part-follow-view-end : tie.Need-part-follow-view-end
-part-follow-view-end c = firsts-room (c .before .before .before .before .before .before .before .before .alter .ensures)
-
--- src/lib.rt:77:5
 follow-view-requires : tie.Need-follow-view-requires
-follow-view-requires c κs = let p = c .before .before .before .before .before .before .before .before .before .before .before .before .before .before .before .before .before .before .before .before .before .before .before .pre in (p .small, all-settings (c .before .before .before .before .before .before .before .before .before .before .before .alter .ensures), p .viewed)
+follow-view-requires c κs =
+    let at-mark-settings = c .before .before .before .before .before .before in
+    let at-alter = before-mark-settings at-mark-settings in
+    let start = before-alter at-alter in
+    let p = start .pre in (p .small, firsts-settings (at-alter .alter .ensures), p .viewed)
 
--- src/lib.rt:78:13
-sub-restore : tie.Need-sub-restore
-sub-restore c = search needs
-
--- src/lib.rt:78:13
-part-restore-start : tie.Need-part-restore-start
-part-restore-start c = search needs
-
--- src/lib.rt:78:13
-part-restore-end : tie.Need-part-restore-end
-part-restore-end c = firsts-room (c .before .before .before .before .before .before .before .before .before .before .before .before .before .before .alter .ensures)
-
--- src/lib.rt:78:5
 restore-requires : tie.Need-restore-requires
-restore-requires c κs = firsts-settings (c .before .before .before .before .before .before .before .before .before .before .before .before .before .before .before .before .before .alter .ensures)
+restore-requires c κs =
+    let at-follow-view = c .before .before .before .before .before in
+    let at-mark-settings = before-follow-view at-follow-view in
+    let at-alter = before-mark-settings at-mark-settings in
+    firsts-settings (at-alter .alter .ensures)
 
--- src/lib.rt:17:1
-same-length : tie.Need-same-length
-same-length c = search needs
-
--- src/lib.rt:17:1
-same-length-2 : tie.Need-same-length-2
-same-length-2 c = search needs
-
--- src/lib.rt:17:1
 returns : tie.Need-returns
-returns c = propagated (c .before .before .before .before .before .before .before .before .before .before .before .before .before .before .before .before .before .before .alter .ensures) (c .before .before .before .before .before .before .before .before .before .before .before .before .before .mark-settings .ensures) (c .before .before .before .before .before .before .follow-view .ensures) (c .restore .ensures)
+returns c =
+    let at-follow-view = c .before .before .before .before .before .before in
+    let at-mark-settings = before-follow-view at-follow-view in
+    let at-alter = before-mark-settings at-mark-settings in
+    propagated (at-alter .alter .ensures) (at-mark-settings .mark-settings .ensures) (at-follow-view .follow-view .ensures) (c .restore .ensures)
 
 pub propagate-spec : {M : Type 1} → statement M
 propagate-spec =
     tie.close
     (tie.spec
-    alter-requires
-    sub-mark-settings
-    part-mark-settings-start
-    part-mark-settings-end
+    (λ c κs. search needs)
+    (λ c. search needs)
+    (λ c. search needs)
+    (λ c. firsts-room (c .before .alter .ensures))
     mark-settings-requires
-    sub-follow-view
-    part-follow-view-start
-    part-follow-view-end
+    (λ c. search needs)
+    (λ c. search needs)
+    (λ c. firsts-room ((before-mark-settings (c .before .before .before)) .alter .ensures))
     follow-view-requires
-    sub-restore
-    part-restore-start
-    part-restore-end
+    (λ c. search needs)
+    (λ c. search needs)
+    (λ c. firsts-room ((before-mark-settings (before-follow-view (c .before .before))) .alter .ensures))
     restore-requires
-    same-length
-    same-length-2
+    (λ c. search needs)
+    (λ c. search needs)
     returns)
