@@ -276,10 +276,10 @@ pub fn carry_below(
     ensures { λ _. ⌜ CarriedBelow k (now (order .entry)) (now (writes .entry)) (now (targets .entry)) (now (written .entry))
         (now (before .entry)) (now (after .entry)) (now (before .exit)) (now (after .exit)) ⌝ }
 {
-    let mut j = 0;
-    while j < k {
-        carry_place(order[j] as usize, writes, targets, written, before, after);
-        j += 1;
+    let mut p = 0;
+    while p < k {
+        carry_place(order[p] as usize, writes, targets, written, before, after);
+        p += 1;
     }
 }
 

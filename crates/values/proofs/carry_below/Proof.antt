@@ -1,4 +1,4 @@
--- `values::carry_below` meets its contract: after j turns the writes of the first j changes are carried. Assumes nothing.
+-- `values::carry_below` meets its contract: after p turns the writes of the first p changes are carried. Assumes nothing.
 use mathlib.Core.Path.{_≡_}
 use Prim.Native.Nat.{_≤_, _<_, _-_}
 use native.Mathlib.Omega.{arith}
@@ -9,23 +9,23 @@ use Rattle.values.proofs.carry_below.Statement.{statement}
 use Rattle.values.proofs.carry_below.Tie as tie
 
 abbrev Inv-loop : tie.InvT-loop
-Inv-loop k order writes targets written before₀ after₀ j₀ before after j = (j ≤ k) × CarriedBelow j order writes targets written before₀ after₀ before after
+Inv-loop k order writes targets written before₀ after₀ p₀ before after p = (p ≤ k) × CarriedBelow p order writes targets written before₀ after₀ before after
 
 abbrev μ-loop : tie.MeasureT-loop
-μ-loop k order writes targets written before₀ after₀ j₀ before after j = k - j
+μ-loop k order writes targets written before₀ after₀ p₀ before after p = k - p
 
 -- the entry, and the turn's place in the tables
 abbrev entry : tie.At-loop Inv-loop μ-loop → tie.Start Inv-loop μ-loop
 entry l = l .before .before .before .before
 
-within : (c : tie.In-loop Inv-loop μ-loop) → let s = entry (c .before) in getD (s .args .order .now) (c .before .loop .j) 0 < length (s .args .writes .now)
-within c = entry (c .before) .pre .placed .below (c .before .loop .j) (c .loop-test .taken)
+within : (c : tie.In-loop Inv-loop μ-loop) → let s = entry (c .before) in getD (s .args .order .now) (c .before .loop .p) 0 < length (s .args .writes .now)
+within c = entry (c .before) .pre .placed .below (c .before .loop .p) (c .loop-test .taken)
 
 carry-place-requires : tie.Need-carry-place-requires Inv-loop μ-loop
 carry-place-requires c κs =
     let m = c .before .before .before in
-    let p = entry (m .before) .pre in
-    (within m, p .listed, p .settings (m .before .loop .j) (m .loop-test .taken))
+    let q = entry (m .before) .pre in
+    (within m, q .listed, q .settings (m .before .loop .p) (m .loop-test .taken))
 
 loop-again : tie.Need-loop-again Inv-loop μ-loop
 loop-again c =
@@ -47,4 +47,4 @@ carry-below-spec =
     (λ c. omega arith)
     (λ c. omega arith)
     loop-again
-    (λ c. let l = c .before in let e : l .loop .j ≡ entry l .args .k = omega arith in rw e at (l .loop .inv .1)))
+    (λ c. let l = c .before in let e : l .loop .p ≡ entry l .args .k = omega arith in rw e at (l .loop .inv .1)))
