@@ -3,8 +3,16 @@ use mathlib.Core.Logic.{inr}
 use mathlib.Core.Path.{refl}
 use native.Mathlib.Omega.{arith}
 use Rattle.drains.proofs.Steps.{pass-slots, pass-carries, pass-valid, pass-turn}
+use Rattle.tables.proofs.Kept.{behind, status-kept, reads-kept, writes-kept, sources-kept, seen-kept, targets-kept, written-kept, view-kept}
 use Rattle.drains.proofs.pass_at.Statement.{statement}
 use Rattle.drains.proofs.pass_at.Tie as tie
+
+-- from a call, or the loop, to what stood before it
+abbrev before-moving : tie.Else1 → tie.Start
+before-moving c = c .before .before .before .before .before .before .before .before .before .before .before .before .before .before
+
+abbrev called : tie.After-view → tie.After-turn-at
+called c = c .before .before .before .before .before .before .before .before .before .before .before .before .before
 
 carry-place-requires : tie.Need-carry-place-requires
 carry-place-requires c κs =
@@ -18,12 +26,13 @@ returns c =
 
 turn-at-requires : tie.Need-turn-at-requires
 turn-at-requires c κs =
-    let start = c .before .before .before .before .before .before .before .before .before .before .before .before .before .before .before .before .before .before .before .before .before .before .before .before .before .before .before .before in
-    pass-turn (start .pre .0) (start .pre .1) (c .before .before .before .before .before .before .before .before .before .before .before .before .before .before .if1 .left)
+    let at-moving = c .before .before .before .before .before .before .before .before .before .before .before .before .before .before in
+    let start = before-moving at-moving in
+    pass-turn (start .pre .0) (start .pre .1) (at-moving .if1 .left)
 
 returns-2 : tie.Need-returns-2
 returns-2 c =
-    let at-turn-at = c .before .before .before .before .before .before .before .before .before .before .before .before .before in
+    let at-turn-at = called c in
     let o = at-turn-at .turn-at .ensures in (inr (o .0), o .1 refl)
 
 pub pass-at-spec : {M : Type 1} → statement M
@@ -41,12 +50,12 @@ pass-at-spec =
     (λ c. refl)
     returns
     turn-at-requires
-    (λ c. c .before .before .before .before .before .before .before .before .before .before .before .before .before .turn-at .kept .1 .1 .1 .1 .1 .0)
-    (λ c. c .before .before .before .before .before .before .before .before .before .before .before .before .before .turn-at .kept .1 .1 .1 .1 .1 .1 .1 .1 .1 .0)
-    (λ c. c .before .before .before .before .before .before .before .before .before .before .before .before .before .turn-at .kept .1 .1 .1 .1 .1 .1 .1 .1 .1 .1 .0)
-    (λ c. c .before .before .before .before .before .before .before .before .before .before .before .before .before .turn-at .kept .1 .1 .1 .1 .1 .1 .1 .1 .1 .1 .1 .0)
-    (λ c. c .before .before .before .before .before .before .before .before .before .before .before .before .before .turn-at .kept .1 .1 .1 .1 .1 .1 .1 .1 .1 .1 .1 .1 .0)
-    (λ c. c .before .before .before .before .before .before .before .before .before .before .before .before .before .turn-at .kept .1 .1 .1 .1 .1 .1 .1 .1 .1 .1 .1 .1 .1 .0)
-    (λ c. c .before .before .before .before .before .before .before .before .before .before .before .before .before .turn-at .kept .1 .1 .1 .1 .1 .1 .1 .1 .1 .1 .1 .1 .1 .1 .0)
-    (λ c. c .before .before .before .before .before .before .before .before .before .before .before .before .before .turn-at .kept .1 .1 .1 .1 .1 .1 .1 .1 .1 .1 .1 .1 .1 .1 .1 .0)
+    (λ c. status-kept (behind (behind (called c .turn-at .kept))))
+    (λ c. reads-kept (behind (behind (called c .turn-at .kept))))
+    (λ c. writes-kept (behind (behind (called c .turn-at .kept))))
+    (λ c. sources-kept (behind (behind (called c .turn-at .kept))))
+    (λ c. seen-kept (behind (behind (called c .turn-at .kept))))
+    (λ c. targets-kept (behind (behind (called c .turn-at .kept))))
+    (λ c. written-kept (behind (behind (called c .turn-at .kept))))
+    (λ c. view-kept (behind (behind (called c .turn-at .kept))))
     returns-2)

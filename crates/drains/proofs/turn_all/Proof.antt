@@ -6,12 +6,16 @@ use Rattle.model.proofs.Form.{facts}
 use Rattle.search.proofs.Answers.{found-at, found-nothing}
 use Rattle.search.proofs.Waits.{placed-status}
 use Rattle.drains.proofs.Pass.{pass-none}
+use Rattle.tables.proofs.Kept.{behind, status-kept, reads-kept, writes-kept, sources-kept, seen-kept, targets-kept, written-kept, view-kept}
 use Rattle.drains.proofs.turn_all.Statement.{statement}
 use Rattle.drains.proofs.turn_all.Tie as tie
 
 -- from a call, or the loop, to what stood before it
 abbrev before-waiting : tie.After-waiting → tie.Start
 before-waiting c = c .before .before .before .before .before .before .before .before .before .before .before .before .before .before
+
+abbrev called : tie.After-view → tie.After-turn-from
+called c = c .before .before .before .before .before .before .before .before .before .before .before .before .before
 
 waiting-requires : tie.Need-waiting-requires
 waiting-requires c κs =
@@ -26,7 +30,7 @@ turn-from-requires c κs =
 
 returns : tie.Need-returns
 returns c =
-    let at-turn-from = c .before .before .before .before .before .before .before .before .before .before .before .before .before in
+    let at-turn-from = called c in
     at-turn-from .turn-from .ensures
 
 returns-2 : tie.Need-returns-2
@@ -45,14 +49,14 @@ turn-all-spec =
     (λ c. search needs)
     turn-from-requires
     (λ c. search needs)
-    (λ c. c .before .before .before .before .before .before .before .before .before .before .before .before .before .turn-from .kept .1 .1 .1 .1 .0)
-    (λ c. c .before .before .before .before .before .before .before .before .before .before .before .before .before .turn-from .kept .1 .1 .1 .1 .1 .1 .1 .1 .0)
-    (λ c. c .before .before .before .before .before .before .before .before .before .before .before .before .before .turn-from .kept .1 .1 .1 .1 .1 .1 .1 .1 .1 .0)
-    (λ c. c .before .before .before .before .before .before .before .before .before .before .before .before .before .turn-from .kept .1 .1 .1 .1 .1 .1 .1 .1 .1 .1 .0)
-    (λ c. c .before .before .before .before .before .before .before .before .before .before .before .before .before .turn-from .kept .1 .1 .1 .1 .1 .1 .1 .1 .1 .1 .1 .0)
-    (λ c. c .before .before .before .before .before .before .before .before .before .before .before .before .before .turn-from .kept .1 .1 .1 .1 .1 .1 .1 .1 .1 .1 .1 .1 .0)
-    (λ c. c .before .before .before .before .before .before .before .before .before .before .before .before .before .turn-from .kept .1 .1 .1 .1 .1 .1 .1 .1 .1 .1 .1 .1 .1 .0)
-    (λ c. c .before .before .before .before .before .before .before .before .before .before .before .before .before .turn-from .kept .1 .1 .1 .1 .1 .1 .1 .1 .1 .1 .1 .1 .1 .1 .0)
+    (λ c. status-kept (behind (called c .turn-from .kept)))
+    (λ c. reads-kept (behind (called c .turn-from .kept)))
+    (λ c. writes-kept (behind (called c .turn-from .kept)))
+    (λ c. sources-kept (behind (called c .turn-from .kept)))
+    (λ c. seen-kept (behind (called c .turn-from .kept)))
+    (λ c. targets-kept (behind (called c .turn-from .kept)))
+    (λ c. written-kept (behind (called c .turn-from .kept)))
+    (λ c. view-kept (behind (called c .turn-from .kept)))
     returns
     (λ c. refl)
     returns-2)

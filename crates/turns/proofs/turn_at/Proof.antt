@@ -23,6 +23,9 @@ before-note-uses c = c .before .before .before .before .before .before .before .
 abbrev before-replace : tie.After-replace → tie.After-note-uses
 before-replace c = c .before .before .before .before .before .before .before .before .before .before .before .before .before .before .before
 
+abbrev called : tie.After-answer-of → tie.After-replace
+called c = c .before .before .before .before .before .before .before .before .before .before .before .before .before .before
+
 decide-requires : tie.Need-decide-requires
 decide-requires c κs =
     let start = c .before .before .before .before .before .before .before .before .before .before .before .before .before .before .before .before .before .before .before .before .before .before .before in
@@ -61,7 +64,7 @@ replace-requires c κs =
 
 returns-2 : tie.Need-returns-2
 returns-2 c =
-    let at-replace = c .before .before .before .before .before .before .before .before .before .before .before .before .before .before in
+    let at-replace = called c in
     let at-note-uses = before-replace at-replace in
     let at-moving = before-note-uses at-note-uses in
     let at-stands = before-moving at-moving in
@@ -99,12 +102,12 @@ turn-at-spec =
     (λ c. omega (arith, turn-slots ((before-decide (before-stands (before-moving (before-note-uses (before-replace (c .before .before .before .before .before .before .before .before .before .before .before .before .before)))))) .pre) .place))
     (λ c. omega (arith, turn-slots ((before-decide (before-stands (before-moving (before-note-uses (before-replace (c .before .before .before .before .before .before .before .before .before .before .before .before .before)))))) .pre) .status, c .before .before .before .before .before .before .before .before .before .before .before .before .before .replace .kept .1 .1 .1 .0))
     (λ c κs. search needs)
-    (λ c. simp length-set (c .before .before .before .before .before .before .before .before .before .before .before .before .before .before .replace .kept .1 .1 .1 .0))
-    (λ c. c .before .before .before .before .before .before .before .before .before .before .before .before .before .before .replace .kept .1 .1 .1 .1 .1 .1 .0)
-    (λ c. c .before .before .before .before .before .before .before .before .before .before .before .before .before .before .replace .kept .1 .1 .1 .1 .1 .1 .1 .0)
-    (λ c. c .before .before .before .before .before .before .before .before .before .before .before .before .before .before .replace .kept .1 .1 .1 .1 .1 .1 .1 .1 .0)
-    (λ c. c .before .before .before .before .before .before .before .before .before .before .before .before .before .before .replace .kept .1 .1 .1 .1 .1 .1 .1 .1 .1 .0)
-    (λ c. c .before .before .before .before .before .before .before .before .before .before .before .before .before .before .replace .kept .1 .1 .1 .1 .1 .1 .1 .1 .1 .1 .0)
-    (λ c. c .before .before .before .before .before .before .before .before .before .before .before .before .before .before .replace .kept .1 .1 .1 .1 .1 .1 .1 .1 .1 .1 .1 .0)
-    (λ c. c .before .before .before .before .before .before .before .before .before .before .before .before .before .before .replace .kept .1 .1 .1 .1 .1 .1 .1 .1 .1 .1 .1 .1 .0)
+    (λ c. simp length-set (called c .replace .kept .1 .1 .1 .0))
+    (λ c. called c .replace .kept .1 .1 .1 .1 .1 .1 .0)
+    (λ c. called c .replace .kept .1 .1 .1 .1 .1 .1 .1 .0)
+    (λ c. called c .replace .kept .1 .1 .1 .1 .1 .1 .1 .1 .0)
+    (λ c. called c .replace .kept .1 .1 .1 .1 .1 .1 .1 .1 .1 .0)
+    (λ c. called c .replace .kept .1 .1 .1 .1 .1 .1 .1 .1 .1 .1 .0)
+    (λ c. called c .replace .kept .1 .1 .1 .1 .1 .1 .1 .1 .1 .1 .1 .0)
+    (λ c. called c .replace .kept .1 .1 .1 .1 .1 .1 .1 .1 .1 .1 .1 .1 .0)
     returns-2)

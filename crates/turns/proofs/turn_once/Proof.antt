@@ -7,12 +7,16 @@ use Rattle.search.proofs.Answers.{found-at, found-nothing}
 use Rattle.search.proofs.Waits.{placed-status}
 use Rattle.turns.proofs.Model.{turn-idle}
 use Rattle.turns.proofs.Steps.{turn-single}
+use Rattle.tables.proofs.Kept.{behind, status-kept, reads-kept, writes-kept, sources-kept, seen-kept, targets-kept, written-kept, view-kept}
 use Rattle.turns.proofs.turn_once.Statement.{statement}
 use Rattle.turns.proofs.turn_once.Tie as tie
 
 -- from a call, or the loop, to what stood before it
 abbrev before-waiting : tie.After-waiting → tie.Start
 before-waiting c = c .before .before .before .before .before .before .before .before .before .before .before .before .before .before
+
+abbrev called : tie.After-view → tie.After-turn-at
+called c = c .before .before .before .before .before .before .before .before .before .before .before .before .before
 
 waiting-requires : tie.Need-waiting-requires
 waiting-requires c κs =
@@ -27,7 +31,7 @@ turn-at-requires c κs =
 
 returns : tie.Need-returns
 returns c =
-    let at-turn-at = c .before .before .before .before .before .before .before .before .before .before .before .before .before in
+    let at-turn-at = called c in
     at-turn-at .turn-at .ensures .0
 
 returns-2 : tie.Need-returns-2
@@ -46,14 +50,14 @@ turn-once-spec =
     (λ c. search needs)
     turn-at-requires
     (λ c. search needs)
-    (λ c. c .before .before .before .before .before .before .before .before .before .before .before .before .before .turn-at .kept .1 .1 .1 .1 .1 .0)
-    (λ c. c .before .before .before .before .before .before .before .before .before .before .before .before .before .turn-at .kept .1 .1 .1 .1 .1 .1 .1 .1 .1 .0)
-    (λ c. c .before .before .before .before .before .before .before .before .before .before .before .before .before .turn-at .kept .1 .1 .1 .1 .1 .1 .1 .1 .1 .1 .0)
-    (λ c. c .before .before .before .before .before .before .before .before .before .before .before .before .before .turn-at .kept .1 .1 .1 .1 .1 .1 .1 .1 .1 .1 .1 .0)
-    (λ c. c .before .before .before .before .before .before .before .before .before .before .before .before .before .turn-at .kept .1 .1 .1 .1 .1 .1 .1 .1 .1 .1 .1 .1 .0)
-    (λ c. c .before .before .before .before .before .before .before .before .before .before .before .before .before .turn-at .kept .1 .1 .1 .1 .1 .1 .1 .1 .1 .1 .1 .1 .1 .0)
-    (λ c. c .before .before .before .before .before .before .before .before .before .before .before .before .before .turn-at .kept .1 .1 .1 .1 .1 .1 .1 .1 .1 .1 .1 .1 .1 .1 .0)
-    (λ c. c .before .before .before .before .before .before .before .before .before .before .before .before .before .turn-at .kept .1 .1 .1 .1 .1 .1 .1 .1 .1 .1 .1 .1 .1 .1 .1 .0)
+    (λ c. status-kept (behind (behind (called c .turn-at .kept))))
+    (λ c. reads-kept (behind (behind (called c .turn-at .kept))))
+    (λ c. writes-kept (behind (behind (called c .turn-at .kept))))
+    (λ c. sources-kept (behind (behind (called c .turn-at .kept))))
+    (λ c. seen-kept (behind (behind (called c .turn-at .kept))))
+    (λ c. targets-kept (behind (behind (called c .turn-at .kept))))
+    (λ c. written-kept (behind (behind (called c .turn-at .kept))))
+    (λ c. view-kept (behind (behind (called c .turn-at .kept))))
     returns
     (λ c. refl)
     returns-2)
