@@ -7,18 +7,20 @@ use lib.IntN.{ℤ}
 use lib.ListN.{length, getD, take, drop}
 use lib.Seq.{take-all, length-take-le}
 use Rattle.machine.specs.Settings.{Environment, Entry, carry, entries}
+use Rattle.machine.proofs.Parts.{part}
 use Rattle.model.specs.History.{Lists}
 use Rattle.model.specs.Tables.{settingsOf}
 use Rattle.model.proofs.Entries.{settings-entries}
 use Rattle.search.specs.Searches.{OfSettings, WriteLists}
 use Rattle.values.specs.Values.{AllKnown, Looked, Collected}
 use Rattle.values.proofs.Replaced.{Replacing, all-kept, replacing, collected-settings, collected-differs, collected-new}
-use Rattle.values.proofs.Parts.{part, part-length, part-settings, same-part, first-part, first-same}
+use Rattle.values.proofs.Parts.{part-length, part-settings, same-part, first-part, first-same}
 use Rattle.acts.specs.Altered.{BothWrites, Alterable, Altered}
 
 -- ---- both writes, as they are lent
 
-abbrev firsts : {A : Type 0} → ℕ → List A → List A
+-- the first entries of a list, as they are lent
+abbrev pub firsts : {A : Type 0} → ℕ → List A → List A
 firsts size l = take (size - 0) (drop 0 l)
 
 module _ {k : ℕ} {order writes targets : List ℕ} {written : List ℤ} {size : ℕ} {newTargets : List ℕ} {newWritten : List ℤ} (a : Alterable k order writes targets size newTargets newWritten) (w : WriteLists writes targets written) where
@@ -45,7 +47,7 @@ module _ {k : ℕ} {order writes targets : List ℕ} {written : List ℤ} {size 
 -- ---- what changes
 
 -- lists with some writes
-abbrev writing : List Entry → Lists
+abbrev pub writing : List Entry → Lists
 writing l = record { reads = []; writes = l }
 
 -- the settings of a whole list

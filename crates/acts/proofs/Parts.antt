@@ -12,8 +12,8 @@ use Rattle.machine.specs.Run.{run}
 use Rattle.run_record.specs.declared.Run.{Run}
 use Rattle.run_record.specs.Record.{Lists, Ran}
 use Rattle.model.specs.Tables.{programIn}
-use Rattle.machine.proofs.Parts.{used-part}
-use Rattle.values.proofs.Parts.{part, part-length}
+use Rattle.machine.proofs.Parts.{part, used-part}
+use Rattle.values.proofs.Parts.{part-length}
 use Rattle.acts.specs.Acts.{Decidable, Runnable}
 
 module _ {k : ℕ} {order status withdrawn reads sources : List ℕ} {seen : List ℤ} {places : ℕ} (d : Decidable k order status withdrawn reads sources seen places) where

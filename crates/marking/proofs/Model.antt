@@ -177,7 +177,7 @@ module _ {n : ℕ} {c : Cabinet} (s : Sound n c) (k : ℕ) (h : k < length (c .c
 
 -- ---- the tables and the history
 
-view-decode : (T : Tables) → decode T .view ≡ T .view
+pub view-decode : (T : Tables) → decode T .view ≡ T .view
 unfolding decode
 view-decode T = refl
 

@@ -2,7 +2,7 @@
 use mathlib.Core.Path.{_≡_, refl, sym, ap, ap₂, _∙_}
 use mathlib.Core.Bool.{Bool}
 use mathlib.Core.List.{List, [], _∷_, _++_, map}
-use Prim.Native.Nat.{ℕ, _*_, _/_}
+use Prim.Native.Nat.{ℕ, _/_}
 use lib.IntN.{pos}
 use lib.ListN.{length, getD, set, take, drop, take-append-drop}
 use lib.Seq.{map-set-same}
@@ -11,8 +11,9 @@ use Rattle.model.specs.History.{New, Lists, Change, change, timestamp, program,
 use Rattle.model.specs.Figure.{markUpdate}
 use Rattle.model.specs.Walk.{markLive, close}
 use Rattle.model.specs.Cabinet.{Cabinet, blank, changesAt, historyOf, putAt, withHistory}
-use Rattle.model.specs.Tables.{flagNumber, pad, padded, blocks, settingsOf, valuesOf, Tables, tables, encode}
+use Rattle.model.specs.Tables.{flagNumber, pad, settingsOf, valuesOf, Tables, tables, encode}
 use Rattle.model.specs.Sound.{AllDistinct, Placed}
+use Rattle.model.proofs.Blocks.{blocks-same}
 use Rattle.model.proofs.Cabinet.{length-putAt, changesAt-other}
 
 abbrev pub withStatus : Tables → List ℕ → Tables
@@ -57,20 +58,6 @@ fields-same g (c ∷ a) (d ∷ b) e =
     let here : unstated c ≡ unstated d = cc in
     let rest : map unstated a ≡ map unstated b = cc in
     ap₂ _∷_ (field-same g c d here) (fields-same g a b rest)
-
--- lists of changes with the same lists of a field
-module _ {A : Type 0} (n width : ℕ) (z : A) (field : Change → List A) where
-  padded-same : (a b : List Change) → map field a ≡ map field b → padded width z field a ≡ padded width z field b
-  padded-same [] [] e = refl
-  padded-same [] (d ∷ b) e = cc
-  padded-same (c ∷ a) [] e = cc
-  padded-same (c ∷ a) (d ∷ b) e =
-      let here : field c ≡ field d = cc in
-      let rest : map field a ≡ map field b = cc in
-      ap₂ (λ (x y : List A). pad width z x ++ y) here (padded-same a b rest)
-
-  pub blocks-same : (a b : List Change) → map field a ≡ map field b → blocks n width z field a ≡ blocks n width z field b
-  blocks-same a b e = ap (pad (width * n) z) (padded-same a b e)
 
 -- ---- the tables
 

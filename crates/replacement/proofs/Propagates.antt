@@ -1,11 +1,10 @@
 -- What follows new writes, from what the code alters, marks and restores.
 use mathlib.Core.Path.{_≡_, sym, ap, subst, _∙_}
-use mathlib.Core.List.{List, []}
+use mathlib.Core.List.{List}
 use Prim.Native.Nat.{ℕ, _+_, _-_, _≤_}
 use lib.IntN.{ℤ}
-use lib.ListN.{length, take, drop}
+use lib.ListN.{length, take}
 use Rattle.machine.specs.Settings.{Environment, Entry}
-use Rattle.model.specs.History.{Lists}
 use Rattle.search.specs.Searches.{OfSettings}
 use Rattle.values.specs.Values.{restored}
 use Rattle.values.proofs.Parts.{first-part}
@@ -13,15 +12,8 @@ use Rattle.values.proofs.Replaced.{Replacing, restored-known}
 use Rattle.marking.specs.Marks.{Columns, markedSettings, followed}
 use Rattle.marking.specs.Uses.{Settled}
 use Rattle.acts.specs.Altered.{Altered}
+use Rattle.acts.proofs.Alters.{firsts, writing}
 use Rattle.replacement.specs.Replaced.{valuesAt, writesAt, Propagated}
-
--- the first entries of a list, as they are lent
-abbrev pub firsts : ℕ → List ℕ → List ℕ
-firsts count list = take (count - 0) (drop 0 list)
-
--- lists with some writes
-abbrev writing : List Entry → Lists
-writing l = record { reads = []; writes = l }
 
 module _ {old new : List Entry} {env : Environment} {earlier known : List ℕ} {before after' : List ℤ} {count : ℕ} {list : List ℕ} (a : Altered old new env earlier known before after' count list) where
   pub firsts-room : count ≤ length list

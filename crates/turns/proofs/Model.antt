@@ -37,6 +37,7 @@ use Rattle.values.proofs.Model.{uptoIn, values-below, reads-here}
 use Rattle.marking.specs.Uses.{Uses}
 use Rattle.marking.proofs.Restated.{withStatus, unstated, Restated, restated}
 use Rattle.marking.proofs.Cabinet.{marked-keeps, marked-cabinet-sound}
+use Rattle.marking.proofs.Model.{view-decode}
 use Rattle.acts.specs.declared.Act.{Act}
 use Rattle.acts.specs.Acts.{actOf}
 use Rattle.turns.specs.Turns as turns
@@ -65,10 +66,6 @@ get-first (suc k) (c ∷ h) b l = get-first k h b (omega arith)
 after-first : (a : History) (new : Change) (rest : History) (env : Environment) → afterAll (take (suc (length a)) (a ++ new ∷ rest)) env ≡ after (lists new .writes) (afterAll a env)
 after-first [] new rest env = refl
 after-first (c ∷ a) new rest env = after-first a new rest (after (lists c .writes) env)
-
-pub view-decode : (T : Tables) → decode T .view ≡ T .view
-unfolding decode
-view-decode T = refl
 
 -- ---- the tables after
 

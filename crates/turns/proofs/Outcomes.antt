@@ -30,7 +30,7 @@ use Rattle.marking.specs.Uses.{Uses}
 use Rattle.marking.proofs.Restated.{withStatus, unstated}
 use Rattle.marking.proofs.LiveSets.{Agree}
 use Rattle.marking.proofs.Later.{none-more-same}
-use Rattle.marking.proofs.Model.{uses-replaced, uses-turned, marked-tables, view-tables}
+use Rattle.marking.proofs.Model.{view-decode, uses-replaced, uses-turned, marked-tables, view-tables}
 use Rattle.storing.specs.Stored.{NewLists, replaced, replacedZ, ListsPut}
 use Rattle.acts.specs.declared.Act.{Act}
 use Rattle.acts.specs.declared.Act.the-variants as act
@@ -40,7 +40,7 @@ use Rattle.replacement.proofs.Made.{made-fits}
 use Rattle.turns.specs.Turns as turns
 use Rattle.turns.proofs.Acts.{settleChange, stepBy}
 use Rattle.turns.proofs.Replaced.{replacedTables}
-use Rattle.turns.proofs.Model.{view-decode, held, here, later, actIn, timestamp-here, turns-by, stood-tables, settled-tables, next-sound, turn-leaves, going-next}
+use Rattle.turns.proofs.Model.{held, here, later, actIn, timestamp-here, turns-by, stood-tables, settled-tables, next-sound, turn-leaves, going-next}
 
 -- what the test of an act tells
 pub is-stand : (a : Act) → turns.isStand a ≡ true → a ≡ act.Stand

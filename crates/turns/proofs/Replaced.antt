@@ -12,12 +12,11 @@ use Rattle.model.specs.History.{Change, timestamp, program, status, withdrawn, 
 use Rattle.model.specs.Cabinet.{Cabinet, blank, changesAt, historyOf, putAt, withHistory}
 use Rattle.model.specs.Tables.{statusNumber, flagNumber, pad, blocks, settingsOf, valuesOf, Tables, tables, withTurn, encode}
 use Rattle.model.specs.Sound.{AllDistinct, Sound}
-use Rattle.model.proofs.Blocks.{column-set, Fits, blocks-set}
+use Rattle.model.proofs.Blocks.{column-set, Fits, blocks-same, blocks-set}
 use Rattle.model.proofs.Cabinet.{put-back, changesAt-other}
 use Rattle.model.proofs.Order.{changesAt-get, below-at}
 use Rattle.model.proofs.Tables.{reads-fit, writes-fit, settings-fit, values-fit, order-at}
 use Rattle.marking.proofs.Places.{distinct-drop, changesAt-drop, put-from}
-use Rattle.marking.proofs.Restated.{blocks-same}
 use Rattle.storing.specs.Stored.{replacedBy, replaced, replacedZ}
 
 -- the tables with the change at a position replaced, and another view

@@ -9,13 +9,10 @@ use lib.Seq.{length-take-le}
 use Rattle.machine.specs.Settings.{entries}
 use Rattle.model.specs.Tables.{slots, listIn}
 use Rattle.model.proofs.Entries.{entries-take}
-use Rattle.machine.proofs.Parts.{used-part}
+use Rattle.machine.proofs.Parts.{part, used-part}
 use Rattle.search.specs.Searches.{OfSettings}
 
--- a part of a table, as it is lent
-abbrev pub part : {A : Type 0} → ℕ → ℕ → ℕ → List A → List A
-part width place count l = take (width * place + count - width * place) (drop (width * place) l)
-
+-- a part of a table, as it is lent, has its count of slots
 pub part-length : {A : Type 0} (width place count : ℕ) (l : List A) → width * place + count ≤ length l → length (part width place count l) ≡ count
 part-length width place count l h = ap length (used-part width place count l) ∙ length-take-le count (drop (width * place) l) (simp length-drop (omega (arith, h)))
 
