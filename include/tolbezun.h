@@ -316,6 +316,16 @@ uint8_t tolbezun_plain_run(
     const int32_t *view, size_t view_len,
     int32_t *settings, size_t settings_len);
 
+/*
+ * The start values: what a new switch comes up with. Setting port x 16 + field starts at 1 in field 2,
+ * the untagged VLAN, and at 0 in every other field.
+ *
+ * settings        1,024 entries, which get the value that each setting starts at
+ *
+ * Alters settings alone. Answers 0 done or refusal 1.
+ */
+uint8_t tolbezun_start_values(int32_t *settings, size_t settings_len);
+
 #ifdef __cplusplus
 }
 #endif

@@ -1,4 +1,4 @@
-//! Has the ten calls proved and built as a static library, and links it.
+//! Has the calls proved and built as a static library, and links it.
 
 fn main() {
     let archive = kit::link_library();

@@ -41,7 +41,7 @@ numbered number slice = record { number = number; slice = slice }
 abbrev pub packageNumbers : PackageReply → Reply (Numbered ℕ)
 packageNumbers r = reply (numbered (answerNumber (r .answer)) (r .answers)) (r .tables)
 
--- a plain run: the slice has the settings
+-- a plain run, or the start values: the slice has the settings
 abbrev pub plainNumbers : PlainReply → Numbered ℤ
 plainNumbers r = numbered (answerNumber (r .answer)) (r .settings)
 

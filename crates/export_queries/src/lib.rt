@@ -5,10 +5,11 @@ use answer_numbers::value_number;
 use queries::current_value;
 use queries::plain_run;
 use queries::standing;
+use queries::start_values;
 use queries::value_as_of;
 ghost use mathlib.Core.Path.{_≡_};
 ghost use Rattle.model.specs.Tables.{tables};
-ghost use Rattle.model.specs.Calls.{valueGiven, standingGiven, currentValue, valueAsOf, standing, plainRun};
+ghost use Rattle.model.specs.Calls.{valueGiven, standingGiven, currentValue, valueAsOf, standing, plainRun, startValues};
 ghost use Rattle.answer_numbers.specs.Numbers.{valueNumber, standingNumber, numbered, plainNumbers};
 
 // The current value of a setting, or its refusal, as a number.
@@ -203,4 +204,12 @@ pub extern "C" fn tolbezun_plain_run(
         view,
         settings,
     ))
+}
+
+// The start values: the number of the answer.
+#[no_mangle]
+pub extern "C" fn tolbezun_start_values(settings: &mut [i32]) -> u8
+    ensures { λ r. ⌜ numbered r (now (settings .exit)) ≡ plainNumbers (startValues (now (settings .entry))) ⌝ }
+{
+    answer_number(start_values(settings))
 }

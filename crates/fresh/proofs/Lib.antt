@@ -1,2 +1,3 @@
 pub mod HeldRun
 pub mod Model
+pub mod Start

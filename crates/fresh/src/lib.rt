@@ -1,6 +1,7 @@
 // Start values, and the run of held changes on settings of their own, in timestamp order.
 use interpreter::run::carry;
 use interpreter::run::run_program;
+use start_values::start_table;
 ghost use mathlib.Core.Path.{_≡_};
 ghost use mathlib.Core.Bool.{true};
 ghost use Prim.Native.Nat.{_≤_};
@@ -16,7 +17,12 @@ ghost use Rattle.fresh.specs.HeldRuns.{heldRun, HeldPrograms};
 pub fn start_value(s: usize) -> i32
     ensures { λ r. ⌜ r ≡ start s ⌝ }
 {
-    0
+    if s < 1024 {
+        let table = start_table();
+        table[s] as i32
+    } else {
+        0
+    }
 }
 
 // Every setting set to its start value.
@@ -24,9 +30,10 @@ pub fn fill_start(values: &mut [i32])
     requires { ⌜ length (now values) ≡ 1024 ⌝ }
     ensures { λ _. ⌜ now (values .exit) ≡ allSettings start ⌝ }
 {
+    let table = start_table();
     let mut s = 0;
     while s < 1024 {
-        values[s] = start_value(s);
+        values[s] = table[s] as i32;
         s += 1;
     }
 }

@@ -1,4 +1,4 @@
-// The cabinet's change history: the ten calls and the types of their answers.
+// The cabinet's change history: the calls and the types of their answers.
 pub use checker::drain;
 pub use checker::turn;
 pub use intake::take_in;
@@ -13,5 +13,6 @@ pub use model::Value;
 pub use queries::current_value;
 pub use queries::plain_run;
 pub use queries::standing;
+pub use queries::start_values;
 pub use queries::value_as_of;
 pub use setup::set_up;

@@ -1,6 +1,5 @@
 -- The lines by their cases.
-use mathlib.Core.Path.{_≡_, sym, ap, _∙_}
-use mathlib.Core.Bool.{Bool, true, false}
+use mathlib.Core.Path.{_≡_}
 use mathlib.Core.List.{[], _++_}
 use Prim.Native.Nat.{ℕ}
 use borrow.Author.Tests.{eq-eqb, ne-eqb}
@@ -8,9 +7,9 @@ use lib.IntN.{ℤ}
 use mir.Syntax.{w32}
 use mir.Val.{SFits, toZ, ofZ}
 use mir.ValLaws.{toZ-ofZ}
-use Rattle.words.specs.Words.{isZero}
 use Rattle.text.specs.Pieces.{ascii}
 use Rattle.text.specs.Decimal.{decimal, signedDecimal}
+use Rattle.model.proofs.Values.{same-bits, other-bits}
 use Rattle.lines.specs.Lines.{outcome, settingLine}
 
 -- what became of an entry
@@ -30,12 +29,9 @@ module _ (kind : ℕ) {answer : ℕ} where
       outcome-withdrawn n = rw (ne-eqb answer 255 h, eq-eqb answer 0 z, ne-eqb kind 0 n)
 
 -- the line of a setting whose value is read from its bits
-module _ (s : ℕ) {v : ℤ} (f : SFits w32 v) {zero : Bool} (t : zero ≡ isZero (toZ w32 (ofZ w32 v))) where
-  tested : isZero v ≡ zero
-  tested = ap isZero (sym (toZ-ofZ w32 v f)) ∙ sym t
+module _ (s : ℕ) (start : ℤ) {v : ℤ} (f : SFits w32 v) where
+  pub setting-none : SFits w32 start → ofZ w32 v ≡ ofZ w32 start → [] ≡ settingLine s start v
+  setting-none g e = rw (same-bits v start f g e)
 
-  pub setting-none : zero ≡ true → [] ≡ settingLine s v
-  setting-none e = rw (tested, e)
-
-  pub setting-some : zero ≡ false → ascii "setting " ++ decimal s ++ ascii " " ++ signedDecimal (toZ w32 (ofZ w32 v)) ++ ascii "\n" ≡ settingLine s v
-  setting-some e = rw (tested, e, toZ-ofZ w32 v f)
+  pub setting-some : (ofZ w32 v ≡ ofZ w32 start → ⊥) → ascii "setting " ++ decimal s ++ ascii " " ++ signedDecimal (toZ w32 (ofZ w32 v)) ++ ascii "\n" ≡ settingLine s start v
+  setting-some n = rw (other-bits v start n, toZ-ofZ w32 v f)

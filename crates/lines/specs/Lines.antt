@@ -4,11 +4,11 @@ use mathlib.Core.List.{List, [], _++_}
 use Prim.Native.Nat.{ℕ}
 use lib.Dec.{eqb}
 use lib.IntN.{ℤ}
-use Rattle.words.specs.Words.{isZero}
 use Rattle.text.specs.Pieces.{ascii}
 use Rattle.text.specs.Decimal.{decimal, signedDecimal}
 use Rattle.model.specs.declared.Turned.{Turned}
 use Rattle.model.specs.declared.Turned.the-variants as turn-answer
+use Rattle.model.specs.History.{eqZ}
 
 -- a package that is refused
 abbrev pub packageLine : ℕ → List ℕ
@@ -36,6 +36,6 @@ turnLine (turn-answer.Stood t) = turnOf t (ascii " stood")
 turnLine (turn-answer.Cleared t) = turnOf t (ascii " cleared")
 turnLine (turn-answer.Refused r) = []
 
--- a setting and its value; one at 0 has no line
-abbrev pub settingLine : ℕ → ℤ → List ℕ
-settingLine s v = cond (isZero v) [] (ascii "setting " ++ decimal s ++ ascii " " ++ signedDecimal v ++ ascii "\n")
+-- a setting and its value; one at the value that it starts at has no line (document 02, R-1: "The program lists settings that differ from their start.")
+abbrev pub settingLine : ℕ → ℤ → ℤ → List ℕ
+settingLine s start v = cond (eqZ v start) [] (ascii "setting " ++ decimal s ++ ascii " " ++ signedDecimal v ++ ascii "\n")

@@ -3,7 +3,6 @@ use model::Turned;
 use text::put;
 use text::put_number;
 use text::put_signed;
-use words::is_zero;
 ghost use Prim.Native.Nat.{_+_, _≤_};
 ghost use lib.ListN.{length};
 ghost use Rattle.text.specs.Pieces.{Put};
@@ -79,13 +78,13 @@ pub fn put_turn(answer: Turned, text: &mut [u8], at: usize) -> usize
     }
 }
 
-// The line of a setting and its value. One at 0 has none.
-pub fn put_setting(setting: usize, value: i32, text: &mut [u8], at: usize) -> usize
+// The line of a setting and its value. One at the value that it starts at has none.
+pub fn put_setting(setting: usize, start: i32, value: i32, text: &mut [u8], at: usize) -> usize
     requires { ⌜ at + 64 ≤ length (now text) ⌝ }
-    ensures { λ r. ⌜ Put at (settingLine setting value) (now (text .entry)) (now (text .exit)) r ⌝ }
+    ensures { λ r. ⌜ Put at (settingLine setting start value) (now (text .entry)) (now (text .exit)) r ⌝ }
     ensures { λ r. ⌜ r ≤ at + 64 ⌝ }
 {
-    if is_zero(value) {
+    if value == start {
         return at;
     }
     let mut end = put(b"setting ", text, at);

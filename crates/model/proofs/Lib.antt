@@ -1,5 +1,6 @@
 pub mod Tabulate
 pub mod Values
+pub mod Start
 pub mod Programs
 pub mod Sound
 pub mod Order

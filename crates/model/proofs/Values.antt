@@ -5,6 +5,9 @@ use Prim.Native.Nat.{ℕ, _<_}
 use borrow.Author.Tests.{eqb-true, eqb-false, eq-eqb, ne-eqb}
 use lib.Dec.{eqb}
 use lib.IntN.{ℤ, pos, negsuc}
+use mir.Facts.{toZ-ofZ}
+use mir.Syntax.{w32}
+use mir.Val.{SFits, toZ, ofZ}
 use Rattle.machine.specs.Settings.{settingCount, Environment, valueIn}
 use Rattle.model.specs.History.{allSettings, eqZ}
 use Rattle.model.proofs.Tabulate.{getD-tabulate, tabulate-is}
@@ -31,6 +34,19 @@ eqZ-sym (pos m) (pos n) = eqb-sym m n
 eqZ-sym (pos m) (negsuc n) = refl
 eqZ-sym (negsuc m) (pos n) = refl
 eqZ-sym (negsuc m) (negsuc n) = eqb-sym m n
+
+module _ (u v : ℤ) where
+  -- two values of the same bits are equal
+  pub same-bits : SFits w32 u → SFits w32 v → ofZ w32 u ≡ ofZ w32 v → eqZ u v ≡ true
+  same-bits f g e = rw (sym (toZ-ofZ f) ∙ ap (toZ w32) e ∙ toZ-ofZ g) (eqZ-refl v)
+
+  -- two of other bits are not
+  pub other-bits : (ofZ w32 u ≡ ofZ w32 v → ⊥) → eqZ u v ≡ false
+  other-bits n = go (eqZ u v) refl
+    where
+      go : (b : Bool) → eqZ u v ≡ b → b ≡ false
+      go true e = absurd (n (ap (ofZ w32) (eqZ-true u v e)))
+      go false e = refl
 
 -- the list of an environment's values gives that environment's values
 pub value-allSettings : (env : Environment) (s : ℕ) → s < settingCount → valueIn (allSettings env) s ≡ env s

@@ -1,4 +1,4 @@
--- The ten calls, each as one function from its arguments and the lent tables to its answer and the tables after it (document 01, "Calls"). A refusal alters nothing.
+-- The calls, each as one function from its arguments and the lent tables to its answer and the tables after it (document 01, "Calls"; document 02). A refusal alters nothing.
 use mathlib.Core.Bool.{cond, not}
 use mathlib.Core.List.{List, [], _∷_, _++_, map}
 use mathlib.Core.Option.{Option, none, some}
@@ -236,4 +236,13 @@ unfoldable pub plainRun : ℕ → Tables → List ℤ → PlainReply
 plainRun n T settings =
     let r = firstOf (wrongLength n T (length settings) settingCount ∷ notInForm n T ∷ []) in
     cond (eqb r 0) (record { answer = answer.Done; settings = allSettings (freshEnd (bookOf (historyOf (decode T))) start) })
+    (record { answer = answer.Refused r; settings = settings })
+
+-- ---- the start values
+
+-- document 02, R-1: "shipped as one constant table of 1,024 numbers". It is lent no tables but a slice of 1,024, which gets them; another length is refusal 1
+unfoldable pub startValues : List ℤ → PlainReply
+startValues settings =
+    let r = firstOf (test 1 (not (eqb (length settings) settingCount)) ∷ []) in
+    cond (eqb r 0) (record { answer = answer.Done; settings = allSettings start })
     (record { answer = answer.Refused r; settings = settings })

@@ -1,4 +1,4 @@
--- Document 01's cases P1 to P11 and its package ("Cases to know"), carried out by the definitions of the calls. The table is proved by computation.
+-- Document 01's cases P1 to P11 and its package ("Cases to know"), with the start values of document 02 (R-1), carried out by the definitions of the calls. The table is proved by computation.
 use mathlib.Core.Path.{_≡_, refl}
 use mathlib.Core.Bool.{Bool, true, false, _&&_}
 use mathlib.Core.List.{List, [], _∷_, _++_, map}
@@ -7,6 +7,7 @@ use lib.Count.{onesIn}
 use lib.IntN.{ℤ, pos, negsuc}
 use lib.ListN.{length, replicate}
 use Rattle.words.specs.Words.{patternOf, numberOf, wrap, floorDiv, onesOf}
+use Rattle.start_values.specs.StartValues.{startTable}
 use Rattle.machine.specs.Settings.{settingCount, named, entries, lookup}
 use Rattle.machine.specs.Instruction.{Program, instructionAt, instructionsFrom, programOf}
 use Rattle.machine.specs.Form.{isWellFormed, allBelow, lengthFits, wellFormed}
@@ -114,14 +115,14 @@ P3 =
       facts = current 50 (Is (pos 7)) ∷ [];
     }
 
--- as P3, but 10 sets 34 to 0: only 10 has a turn
+-- as P3, but 10 sets 34 to 1, where it starts: only 10 has a turn
 P4 : Case
 P4 =
     record {
-      script = takesIn 20 (copies 34 50) ∷ drainsRunning (20 ∷ []) ∷ takesIn 10 (sets 34 (pos 0)) ∷ [];
+      script = takesIn 20 (copies 34 50) ∷ drainsRunning (20 ∷ []) ∷ takesIn 10 (sets 34 (pos 1)) ∷ [];
       turned = Ran 10 ∷ [];
       answer = counted 1 0 0;
-      facts = current 50 (Is (pos 0)) ∷ [];
+      facts = current 50 (Is (pos 1)) ∷ [];
     }
 
 -- 20 sets 34 to 5, 30 copies 34 to 50, drained; 10 sets 34 to 7: only 10
@@ -144,35 +145,35 @@ P6 =
       facts = current 34 (Is (pos 8)) ∷ [];
     }
 
--- 30 copies 34 to 50, drained; 10 sets 34 to 7, one turn; 20 sets 34 to 0: 20 ran, 30 stood
+-- 30 copies 34 to 50, drained; 10 sets 34 to 7, one turn; 20 sets 34 to 1: 20 ran, 30 stood
 P7 : Case
 P7 =
     record {
       script =
-          takesIn 30 (copies 34 50) ∷ drainsRunning (30 ∷ []) ∷ takesIn 10 (sets 34 (pos 7)) ∷ turns (Ran 10) ∷ takesIn 20 (sets 34 (pos 0)) ∷ [];
+          takesIn 30 (copies 34 50) ∷ drainsRunning (30 ∷ []) ∷ takesIn 10 (sets 34 (pos 7)) ∷ turns (Ran 10) ∷ takesIn 20 (sets 34 (pos 1)) ∷ [];
       turned = Ran 20 ∷ Stood 30 ∷ [];
       answer = counted 1 1 0;
-      facts = current 50 (Is (pos 0)) ∷ stands 30 (At 1 0) ∷ [];
+      facts = current 50 (Is (pos 1)) ∷ stands 30 (At 1 0) ∷ [];
     }
 
--- 10 sets 34 to 7 and 40 to 3, drained, withdrawn: cleared; both are 0
+-- 10 sets 34 to 7 and 40 to 3, drained, withdrawn: cleared; both are back where they start, 34 at 1 and 40 at 0
 P8 : Case
 P8 =
     record {
       script = takesIn 10 (sets 34 (pos 7) ++ sets 40 (pos 3)) ∷ drainsRunning (10 ∷ []) ∷ withdraws 10 ∷ [];
       turned = Cleared 10 ∷ [];
       answer = counted 0 0 1;
-      facts = current 34 (Is (pos 0)) ∷ current 40 (Is (pos 0)) ∷ stands 10 (At 1 1) ∷ [];
+      facts = current 34 (Is (pos 1)) ∷ current 40 (Is (pos 0)) ∷ stands 10 (At 1 1) ∷ [];
     }
 
--- 10 writes 34 twice: it writes nothing
+-- 10 writes 34 twice: it writes nothing; 34 stays where it starts, at 1
 P9 : Case
 P9 =
     record {
       script = takesIn 10 (sets 34 (pos 7) ++ sets 34 (pos 5)) ∷ [];
       turned = Ran 10 ∷ [];
       answer = counted 1 0 0;
-      facts = current 34 (Is (pos 0)) ∷ asOf 20 34 (Is (pos 0)) ∷ [];
+      facts = current 34 (Is (pos 1)) ∷ asOf 20 34 (Is (pos 1)) ∷ [];
     }
 
 -- −2,147,483,648 negated is itself; 2,147,483,647 + 1 is −2,147,483,648; −5 by op 6 with n = 1 is −3; −1 has 32 ones
@@ -338,5 +339,5 @@ expected : Case → Outcome
 expected c = record { done = true; answered = toAnswer (c .script); turned = c .turned; answer = c .answer; facts = c .facts }
 
 cases-hold : map outcome cases ≡ map expected cases
-unfolding cases P1 P2 P3 P4 P5 P6 P7 P8 P9 P10 P11-before P11-after sample-package outcome expected setUp takeIn withdraw takeInPackage turn drain currentValue valueAsOf standing itemAnswer layoutFits itemsOf numberAt countBefore encode decode lengthsFit inForm drainHistory drainFor round start runLists run runProgram runFrom step perform effect load store enter named lookup entries lengthFits wellFormed allBelow isWellFormed programOf instructionsFrom instructionAt shiftRight patternOf numberOf wrap floorDiv onesOf onesIn
+unfolding cases P1 P2 P3 P4 P5 P6 P7 P8 P9 P10 P11-before P11-after sample-package outcome expected setUp takeIn withdraw takeInPackage turn drain currentValue valueAsOf standing itemAnswer layoutFits itemsOf numberAt countBefore encode decode lengthsFit inForm drainHistory drainFor round start startTable runLists run runProgram runFrom step perform effect load store enter named lookup entries lengthFits wellFormed allBelow isWellFormed programOf instructionsFrom instructionAt shiftRight patternOf numberOf wrap floorDiv onesOf onesIn
 cases-hold = refl

@@ -4,7 +4,8 @@ use mathlib.Core.List.{List, [], _∷_}
 use Prim.Native.Nat.{ℕ, zero, suc, _-_, _^_}
 use lib.Dec.{eqb, ltb}
 use lib.IntN.{ℤ, pos, negsuc}
-use Rattle.machine.specs.Settings.{settingCount, Environment, Entry, after}
+use Rattle.start_values.specs.StartValues.{startTable}
+use Rattle.machine.specs.Settings.{settingCount, Environment, valueIn, Entry, after}
 use Rattle.machine.specs.Run.{run}
 
 -- 2^64 − 1
@@ -15,9 +16,9 @@ infinity = 2 ^ 64 - 1
 abbrev pub isTimestamp : ℕ → Bool
 isTimestamp t = ltb 0 t && ltb t infinity
 
--- the start values: every setting starts at 0
+-- the start values, by the table (document 02, R-1)
 unfoldable pub start : Environment
-start s = pos 0
+start = valueIn startTable
 
 pub data Status : Type 0 where
   New Valid Invalid : Status

@@ -17,7 +17,7 @@ use Rattle.model.specs.Cabinet.{historyOf, find}
 use Rattle.model.specs.Tables.{Tables, heldCount, programAt, decode}
 use Rattle.model.specs.Form.{lengthsFit, Formed}
 use Rattle.model.specs.Refusals.{test, firstOf, noTimestamp, noTime, noSetting, notHeld, faultOf}
-use Rattle.model.specs.Calls.{unlessRead, currentValue, valueAsOf, standingOf, standing, plainReply, plainRun}
+use Rattle.model.specs.Calls.{unlessRead, currentValue, valueAsOf, standingOf, standing, plainReply, plainRun, startValues}
 use Rattle.model.proofs.Tables.{status-at, withdrawn-at}
 use Rattle.model.proofs.Form.{facts}
 use Rattle.search.specs.Searches.{PlacesWithin, WriteLists}
@@ -95,3 +95,14 @@ module _ (n : ℕ) (T : Tables) (settings : List ℤ) where
     pub plain-done : {k : ℕ} {values : List ℤ} → Formed n T → k ≡ heldCount T → values ≡ heldRun (T .order) (T .withdrawn) (programAt T) (allSettings start) k → plainReply answer.Done values ≡ plainRun n T settings
     unfolding plainRun
     plain-done g e h = rw (eq-eqb _ settingCount l, g .sized, g .form) (ap (plainReply answer.Done) (h ∙ ap (heldRun (T .order) (T .withdrawn) (programAt T) (allSettings start)) e ∙ held-fresh g start))
+
+-- ---- start values
+
+module _ (settings : List ℤ) where
+  pub start-wrong-length : (length settings ≡ settingCount → ⊥) → plainReply (answer.Refused 1) settings ≡ startValues settings
+  unfolding startValues
+  start-wrong-length h = rw (ne-eqb _ settingCount h)
+
+  pub start-done : {values : List ℤ} → length settings ≡ settingCount → values ≡ allSettings start → plainReply answer.Done values ≡ startValues settings
+  unfolding startValues
+  start-done l e = rw (eq-eqb _ settingCount l) (ap (plainReply answer.Done) e)

@@ -1,4 +1,4 @@
-// The calls that only read: current value, value as of a timestamp, standing of a timestamp, plain run.
+// The calls that only read: current value, value as of a timestamp, standing of a timestamp, plain run, start values.
 use fresh::fill_start;
 use fresh::run_held;
 use model::Answer;
@@ -14,7 +14,7 @@ use values::value_below;
 ghost use mathlib.Core.Path.{_≡_};
 ghost use lib.ListN.{length};
 ghost use Rattle.model.specs.Tables.{tables};
-ghost use Rattle.model.specs.Calls.{currentValue, valueAsOf, standing, plainReply, plainRun};
+ghost use Rattle.model.specs.Calls.{currentValue, valueAsOf, standing, plainReply, plainRun, startValues};
 ghost use Rattle.search.specs.Searches.{PlacesWithin, WriteLists};
 ghost use Rattle.queries.specs.Queries.{currentAnswer, asOfAnswer, standingAnswer};
 
@@ -320,4 +320,15 @@ pub fn plain_run(
     run_held(count, order, withdrawn, lengths, programs, &mut values);
     copy(&values, settings);
     Answer::Done
+}
+
+// The start values, for a lent slice of 1,024 settings.
+pub fn start_values(settings: &mut [i32]) -> Answer
+    ensures { λ r. ⌜ plainReply r (now (settings .exit)) ≡ startValues (now (settings .entry)) ⌝ }
+{
+    if settings.len() == 1024 {
+        fill_start(settings);
+        return Answer::Done;
+    }
+    Answer::Refused(1)
 }

@@ -7,6 +7,7 @@ use lib.IntN.{ℤ}
 use lib.ListN.{getD}
 use Rattle.machine.specs.Settings.{settingCount, valueIn}
 use Rattle.model.specs.declared.Turned.{Turned}
+use Rattle.model.specs.History.{start}
 use Rattle.model.specs.Package.{entryCount, kindOf}
 use Rattle.model.specs.Calls.{answerNumber, PackageReply, drain}
 use Rattle.model.specs.Log.{drainTurns}
@@ -33,9 +34,9 @@ abbrev pub turnLines : List Turned → List ℕ
 turnLines [] = []
 turnLines (a ∷ turns) = turnLine a ++ turnLines turns
 
--- a setting with its value; the settings that are not 0
+-- a setting with its value; the settings that differ from their start
 abbrev pub settingOf : List ℤ → ℕ → List ℕ
-settingOf view s = settingLine s (valueIn view s)
+settingOf view s = settingLine s (start s) (valueIn view s)
 
 unfoldable pub settingLines : List ℤ → List ℕ
 settingLines view = linesBelow settingCount (settingOf view)

@@ -1,5 +1,6 @@
-// The reply to a package as text: its entries, the turns of one drain, and the settings that are not 0.
+// The reply to a package as text: its entries, the turns of one drain, and the settings that differ from their start.
 use answer_numbers::answer_number;
+use fresh::fill_start;
 use history::Answer;
 use history::Turned;
 use history::turn;
@@ -112,22 +113,24 @@ fn put_turns(
     end
 }
 
-// The lines of the settings that are not 0.
+// The lines of the settings that differ from their start.
 fn put_settings(view: &[i32], text: &mut [u8], at: usize) -> usize
     requires { ⌜ (length (now view) ≡ 1024) × (at + 65536 ≤ length (now text)) ⌝ }
     ensures { λ r. ⌜ Put at (settingLines (now (view .entry))) (now (text .entry)) (now (text .exit)) r ⌝ }
     ensures { λ r. ⌜ r ≤ at + 65536 ⌝ }
 {
+    let mut start = [0i32; 1024];
+    fill_start(&mut start);
     let mut end = at;
     let mut s = 0;
     while s < view.len() {
-        end = put_setting(s, view[s], text, end);
+        end = put_setting(s, start[s], view[s], text, end);
         s += 1;
     }
     end
 }
 
-// The lines of a package's reply: its refusal, or its entries, the turns of one drain, and the settings that are not 0.
+// The lines of a package's reply: its refusal, or its entries, the turns of one drain, and the settings that differ from their start.
 pub fn put_reply(
     held: &[u16],
     timestamps: &[u64],

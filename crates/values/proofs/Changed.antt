@@ -12,8 +12,8 @@ use mir.Syntax.{w32}
 use mir.Val.{SFits, ofZ}
 use Rattle.machine.specs.Settings.{valueIn}
 use Rattle.model.specs.History.{eqZ}
+use Rattle.model.proofs.Values.{same-bits, other-bits}
 use Rattle.values.specs.Values.{changedIn, Collected, restored}
-use Rattle.values.proofs.Values.{same-bits, other-bits}
 
 -- ---- collected, one setting after the other
 

@@ -12,7 +12,7 @@ use mir.Syntax.{w32}
 use mir.Val.{SFits, ofZ}
 use Rattle.machine.specs.Settings.{Environment, entries}
 use Rattle.model.specs.History.{eqZ, allHold}
-use Rattle.values.proofs.Values.{same-bits, other-bits}
+use Rattle.model.proofs.Values.{same-bits, other-bits}
 
 -- do the entries from the i-th on hold
 abbrev pub restHold : List ℕ → List ℤ → Environment → ℕ → Bool

@@ -9,15 +9,15 @@
 //! | `value V` | `current`, `value_as_of` |
 //! | `standing STATUS FLAG` | `standing`: 0 New, 1 Valid, 2 Invalid; 1 withdrawn, else 0 |
 //! | `done answers [a, b, ..]` | `take_in_package`: for each entry 0 done, 255 already held, else the refusal |
-//! | `done [v, v, ..]` | `plain_run`: the 1,024 settings |
+//! | `done [v, v, ..]` | `plain_run`, `start_values`: the 1,024 settings |
 //! | one line of JSON | `tables`: an object of fourteen lists |
-//! | `refused R` | all but `tables` and `load` |
+//! | `refused R` | all but `start_values`, `tables` and `load` |
 
 use crate::json;
 use crate::script::{Call, Quoted};
 use std::{fmt, fs, io};
 use tolbezun::calls::{self, ANSWERS};
-use tolbezun::{Refusal, Tables, Taken, Turned, MAX_CAPACITY, SETTINGS};
+use tolbezun::{start_values, Refusal, Tables, Taken, Turned, MAX_CAPACITY, SETTINGS};
 
 /// A capacity, and the tables that each call is lent.
 pub struct Runner {
@@ -51,11 +51,13 @@ impl fmt::Display for Error {
 impl std::error::Error for Error {}
 
 impl Runner {
-    /// A runner for this capacity, whatever it is, with 0 in every slot of its tables.
+    /// A runner for this capacity, whatever it is, with tables just set up. Where set up refuses the
+    /// capacity they have 0 in every slot.
     pub fn new(n: usize) -> Self {
         // Above the highest capacity every call is refused, whatever the tables' lengths are: no
         // more is allocated than for one above it.
-        let tables = Tables::new(n.min(MAX_CAPACITY + 1));
+        let mut tables = Tables::new(n.min(MAX_CAPACITY + 1));
+        let _ = calls::set_up(n, &mut tables);
         Self { n, tables }
     }
 
@@ -94,6 +96,7 @@ impl Runner {
                 let mut settings = [0; SETTINGS];
                 calls::plain_run(n, tables, &mut settings).map(|()| format!("done {settings:?}"))
             }
+            Call::StartValues => Ok(format!("done {:?}", start_values())),
             Call::Tables => Ok(json::write(tables)),
             Call::Load { ref file } => {
                 *tables = load(file)?;

@@ -32,6 +32,7 @@ value_as_of TS S            value V
 standing TS                 standing STATUS FLAG
 take_in_package HEX [lenL]  done answers [a, b, ..], for the entries
 plain_run                   done [v, v, ..], for the 1,024 settings
+start_values                done [v, v, ..], the value that each setting starts at
 tables                      the tables, one line of JSON
 load FILE                   done; FILE has tables as `tables` prints them
 

@@ -15,6 +15,7 @@
 //! | `standing TS` | standing of a timestamp |
 //! | `take_in_package HEX [lenL]` | take in a package; with `lenL`, for example `len511`, an answer slice of that length is lent instead of 512 |
 //! | `plain_run` | plain run |
+//! | `start_values` | start values |
 //! | `tables` | no call: the tables as they stand |
 //! | `load FILE` | no call: the calls after it are lent the tables of this file |
 //!
@@ -54,6 +55,7 @@ pub enum Call {
         answers: Option<usize>,
     },
     PlainRun,
+    StartValues,
     Tables,
     Load {
         file: String,
@@ -158,6 +160,7 @@ pub fn read(line: &[u8]) -> Result<Option<Call>, Error> {
             answers: arguments.length()?,
         },
         "plain_run" => Call::PlainRun,
+        "start_values" => Call::StartValues,
         "tables" => Call::Tables,
         "load" => Call::Load {
             file: arguments.word("FILE")?.to_string(),

@@ -101,8 +101,8 @@ fn input_may_come_in_pieces() {
 
 #[test]
 fn random_packages_are_listed() {
-    let [turns, cleared, settings, full] = with_seeds(|random, share| {
-        let [mut turns, mut cleared, mut settings, mut full] = [0; 4];
+    let [turns, cleared, settings, untagged, full] = with_seeds(|random, share| {
+        let [mut turns, mut cleared, mut settings, mut untagged, mut full] = [0; 5];
         for index in 0..share.of(PACKAGES) {
             let mut entries = packages::entries(random, &[]);
             if index % 2 == 0 {
@@ -119,14 +119,56 @@ fn random_packages_are_listed() {
             turns += lines(" ran");
             cleared += lines(" cleared");
             settings += lines("setting ");
+            untagged += written.lines().filter(|line| is_untagged_0(line)).count();
             full += lines(" refused 9");
         }
-        [turns, cleared, settings, full]
+        [turns, cleared, settings, untagged, full]
     });
     println!("{turns} ran, {cleared} cleared, {settings} settings, {full} refused 9");
+    println!("{untagged} untagged VLANs at 0");
     for count in [turns, cleared, settings, full] {
         assert!(count >= PACKAGES / 4, "{count}");
     }
+    assert!(untagged >= PACKAGES / 20, "{untagged}");
+}
+
+/// Whether a line lists a setting of field 2 at 0, where it does not start.
+fn is_untagged_0(line: &str) -> bool {
+    let words: Vec<&str> = line.split(' ').collect();
+    let ["setting", setting, "0"] = words[..] else {
+        return false;
+    };
+    let setting: usize = setting.parse().expect("it is a number");
+    setting % 16 == 2
+}
+
+/// Settings at 0 and at 1, which some start at.
+#[test]
+fn settings_that_differ_from_their_start_are_listed() {
+    let set = |value: i32, setting: i32| {
+        let constant = Instruction {
+            op: op::CONSTANT,
+            n: value,
+            ..Instruction::default()
+        };
+        let write = Instruction {
+            op: op::WRITE,
+            n: setting,
+            ..Instruction::default()
+        };
+        [constant.to_bytes(), write.to_bytes()].concat()
+    };
+    let program = [set(0, 2), set(0, 3), set(1, 18), set(1, 19), set(-1, 1010)].concat();
+    let timestamp = 10;
+    let package = lay_out(&[Entry::Change { timestamp, program }]);
+    let expected = "\
+entry 0 taken
+turn 10 ran
+setting 2 0
+setting 19 1
+setting 1010 -1
+";
+    assert_eq!(assert_listed(&package), expected);
 }
 
 /// Packages with a breach of the layout, and with bytes changed, which may keep it.

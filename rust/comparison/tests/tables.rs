@@ -4,10 +4,13 @@
 use comparison::both::{Answer, Both, Query};
 use comparison::generate::tables::{self as random_tables, Breach, Table};
 use comparison::generate::{packages, Random};
+use comparison::proved::calls as proved;
 use comparison::reached::Reached;
 use comparison::seeds::{count_reached, with_seeds};
+use outside::calls::Refusal;
 use outside::package::ANSWERS;
 use outside::program::{self, SETTINGS};
+use outside::start::start_value;
 use outside::tables::{in_form, Status, Tables, INFINITY, LIST_ENTRIES, MAX_CAPACITY};
 
 /// How many random tables calls are made on.
@@ -87,8 +90,9 @@ enum Event {
     Broken(Breach),
     CurrentValue,
     CurrentValueRefused(u8),
-    /// Nothing writes the setting below the timestamp, or the highest write counts.
-    AsOfStart,
+    /// Nothing writes the setting below the timestamp, which starts at this value, or the highest
+    /// write counts.
+    AsOfStart(i32),
     AsOfWritten,
     AsOfInfinity,
     /// Several changes stamped below the timestamp write the setting.
@@ -160,7 +164,7 @@ fn count_value_as_of(
     let later = writers.iter().any(|&place| stamp(place) > timestamp);
     reached.count_if(later, Event::AsOfLaterWrite);
     let Some(highest) = below().max_by_key(|&place| stamp(place)) else {
-        reached.count(Event::AsOfStart);
+        reached.count(Event::AsOfStart(start_value(setting)));
         return;
     };
     reached.count(Event::AsOfWritten);
@@ -242,7 +246,8 @@ fn random_tables_have_the_same_answers() {
     for event in [
         Event::ChangedInForm,
         Event::ChangedNotInForm,
-        Event::AsOfStart,
+        Event::AsOfStart(0),
+        Event::AsOfStart(1),
         Event::AsOfWritten,
         Event::AsOfInfinity,
         Event::AsOfSeveral,
@@ -504,6 +509,21 @@ fn capacities_other_than_1_to_4096_are_refused() {
             }
         }
     });
+}
+
+#[test]
+fn start_values_are_the_outside_ones_in_a_slice_of_1024_alone() {
+    let mut lengths: Vec<usize> = (0..2 * SETTINGS + 2).collect();
+    lengths.push(65_536 + SETTINGS);
+    for length in lengths {
+        let mut by_proved = vec![-7; length];
+        let mut by_outside = by_proved.clone();
+        let answer = proved::start_values(&mut by_proved);
+        let expected = outside::start::start_values(&mut by_outside);
+        assert_eq!(answer, expected.map_err(Refusal::number), "{length}");
+        assert_eq!(answer.is_ok(), length == SETTINGS, "{length}");
+        assert!(by_proved == by_outside, "{length}");
+    }
 }
 
 #[test]

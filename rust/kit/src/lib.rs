@@ -7,7 +7,7 @@ use std::path::{Path, PathBuf};
 use std::process::{exit, Command};
 use std::{env, fs};
 
-/// Has the ten calls proved and built as the product's static library by `./library`, and links it. Returns the archive.
+/// Has the calls proved and built as the product's static library by `./library`, and links it. Returns the archive.
 pub fn link_library() -> PathBuf {
     link_archive(&["bash", "library"], "tolbezun")
 }

@@ -7,6 +7,7 @@
 use crate::checker::{Totals, Turn, Turned};
 use crate::package::{entries, Entry, DONE};
 use crate::program::{self, Access, SETTINGS};
+use crate::start::settings_at_start;
 use crate::tables::Tables;
 use std::collections::{BTreeMap, BTreeSet};
 use std::iter;
@@ -163,7 +164,7 @@ impl Book {
     /// "The fresh run starts 1,024 settings of its own, each at its start value, and goes through
     /// the book by rising timestamp."
     fn fresh_run(&self) -> FreshRun {
-        let mut settings = [0; SETTINGS];
+        let mut settings = settings_at_start();
         let mut changes = BTreeMap::new();
         for (&timestamp, booked) in &self.0 {
             let mut fresh = Fresh {

@@ -4,6 +4,7 @@
 
 use crate::checker::{turn, Turned};
 use crate::package::{entries, take_in_package, Entry, ALREADY_HELD, ANSWERS, DONE};
+use crate::start::start_value;
 use crate::tables::Tables;
 use std::fmt::Write;
 
@@ -13,8 +14,9 @@ pub const CAPACITY: usize = 128;
 /// What the cabinet program writes to standard output where this is its standard input.
 ///
 /// "Entry lines give the index in the contents and taken, held, withdrawn or refused with the
-/// number. Then come the turns of one drain by timestamp, then settings other than 0, rising, with
-/// values. A bad package gives only `package refused 3`."
+/// number. Then come the turns of one drain by timestamp, then settings", rising, with values: "The
+/// program lists settings that differ from their start" (document 02, R-1). "A bad package gives
+/// only `package refused 3`."
 pub fn listing(input: &[u8]) -> String {
     let mut tables = Tables::new(CAPACITY);
     let mut answers = [0; ANSWERS];
@@ -44,7 +46,7 @@ pub fn listing(input: &[u8]) -> String {
         lines.push(format_args!("turn {} {word}", turn.timestamp));
     }
     for (setting, &value) in tables.view.iter().enumerate() {
-        if value != 0 {
+        if value != start_value(setting) {
             lines.push(format_args!("setting {setting} {value}"));
         }
     }

@@ -3,6 +3,7 @@
 //! Document 01, "Calls" and "Turned down, in checking order".
 
 use crate::program::{self, Malformed, SETTINGS};
+use crate::start::{settings_at_start, start_value};
 use crate::tables::{check_lengths, in_form, Status, Tables, INFINITY};
 
 /// Why a call is turned down. "A refusal gives its number alone and alters no lent slice."
@@ -88,8 +89,7 @@ pub fn value_as_of(
         })
         .filter(|(_, write)| usize::from(write.setting) == setting)
         .max_by_key(|&(stamp, _)| stamp);
-    // "Every setting starts at 0."
-    Ok(highest.map_or(0, |(_, write)| write.value))
+    Ok(highest.map_or_else(|| start_value(setting), |(_, write)| write.value))
 }
 
 /// "standing of a timestamp (status and flag)".
@@ -103,8 +103,9 @@ pub fn standing(n: usize, tables: &Tables, timestamp: u64) -> Result<Standing, R
     })
 }
 
-/// "The plain run starts its own 1,024 settings at 0 and writes to a lent slice of 1,024 what all
-/// held changes leave, run in timestamp order, withdrawn ones passed over."
+/// "The plain run starts its own 1,024 settings" at the start values (document 02, R-1) "and writes
+/// to a lent slice of 1,024 what all held changes leave, run in timestamp order, withdrawn ones
+/// passed over."
 pub fn plain_run(n: usize, tables: &Tables, lent: &mut [i32]) -> Result<(), Refusal> {
     refuse_unless(lent.len() == SETTINGS, Refusal::Length)?;
     check(n, tables)?;
@@ -112,7 +113,7 @@ pub fn plain_run(n: usize, tables: &Tables, lent: &mut [i32]) -> Result<(), Refu
         .filter(|&place| tables.withdrawn[place] == 0)
         .collect();
     places.sort_unstable_by_key(|&place| tables.timestamps[place]);
-    let mut settings = [0; SETTINGS];
+    let mut settings = settings_at_start();
     for place in places {
         let outcome = program::run(tables.program(place), &settings);
         for write in outcome.writes() {

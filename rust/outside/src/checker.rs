@@ -5,6 +5,7 @@
 
 use crate::calls::{check, Refusal};
 use crate::program::{self, Access, SETTINGS};
+use crate::start::{settings_at_start, start_value};
 use crate::tables::{Status, Tables, INFINITY};
 use std::collections::{BTreeMap, BTreeSet};
 
@@ -152,16 +153,17 @@ impl History {
     }
 
     /// Value-Upto(x,T): "value v in the writeset entry <Write, x, Previous-Writer(x,T), v>".
-    /// Document 01: "Every setting starts at 0."
+    /// Without a previous writer it is the start value.
     fn value_upto(&self, x: u16, t: u64) -> i32 {
         let writer = self.updates.get(&self.previous_writer(x, t));
-        writer.and_then(|update| update.written(x)).unwrap_or(0)
+        let written = writer.and_then(|update| update.written(x));
+        written.unwrap_or_else(|| start_value(x.into()))
     }
 
     /// Value-Upto(x,T) of every x.
     fn values_upto(&self, t: u64) -> [i32; SETTINGS] {
         let mut previous_writers = [0; SETTINGS];
-        let mut values = [0; SETTINGS];
+        let mut values = settings_at_start();
         for (&u, update) in self.updates.iter().filter(|(&u, _)| u < t) {
             for write in &update.writeset {
                 let x = usize::from(write.setting);

@@ -6,6 +6,7 @@ use crate::checker::{drain, turn, Turned};
 use crate::intake::{take_in, withdraw, Taken};
 use crate::package::{take_in_package, ALREADY_HELD, ANSWERS, DONE, ENTRY_BYTES};
 use crate::program::{op, Instruction, INSTRUCTION_BYTES};
+use crate::start::start_value;
 use crate::tables::{Tables, LIST_ENTRIES, PROGRAM_BYTES};
 
 pub const NEW: u16 = 0;
@@ -25,7 +26,8 @@ pub struct Change {
     pub writes: Vec<(u16, i32)>,
 }
 
-/// Tables of capacity `n` with this order and these changes, in order of arrival. The view is 0.
+/// Tables of capacity `n` with this order and these changes, in order of arrival. The view is
+/// at the start.
 pub fn tables(n: usize, order: &[u16], changes: &[Change]) -> Tables {
     let mut tables = Tables::new(n);
     tables.held[0] = changes.len() as u16;
@@ -195,10 +197,9 @@ impl Script {
         book::check(&self.calls, &self.tables)
     }
 
-    /// The settings other than 0 in the view.
+    /// The settings of the view that differ from their start.
     pub fn view(&self) -> Vec<(usize, i32)> {
-        let settings = self.tables.view.iter().copied().enumerate();
-        settings.filter(|&(_, value)| value != 0).collect()
+        moved(&self.tables.view)
     }
 
     /// The read list of a change.
@@ -207,6 +208,13 @@ impl Script {
         let reads = self.tables.read_list(place);
         reads.map(|read| (read.setting, read.value)).collect()
     }
+}
+
+/// The settings that differ from their start.
+pub fn moved(settings: &[i32]) -> Vec<(usize, i32)> {
+    let settings = settings.iter().copied().enumerate();
+    let moved = settings.filter(|&(setting, value)| value != start_value(setting));
+    moved.collect()
 }
 
 /// The package whose entries have these timestamps, kinds and bodies.

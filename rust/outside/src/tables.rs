@@ -3,6 +3,7 @@
 //! Document 01, "Tables", and refusals 1 and 2 of "Turned down, in checking order".
 
 use crate::program::{self, Access, SettingSet, INSTRUCTION_BYTES, MAX_INSTRUCTIONS, SETTINGS};
+use crate::start::settings_at_start;
 use std::collections::HashSet;
 
 /// "Capacity N is 1 to 4,096."
@@ -83,7 +84,8 @@ pub struct Tables {
 }
 
 impl Tables {
-    /// Tables of the lengths that belong to capacity `n`, with 0 in every slot.
+    /// Tables of the lengths that belong to capacity `n`, as set up leaves them: "every table to 0,
+    /// the view to the start".
     pub fn new(n: usize) -> Self {
         Self {
             held: vec![0; 1],
@@ -99,7 +101,7 @@ impl Tables {
             seen: vec![0; LIST_ENTRIES * n],
             targets: vec![0; LIST_ENTRIES * n],
             written: vec![0; LIST_ENTRIES * n],
-            view: vec![0; SETTINGS],
+            view: settings_at_start().to_vec(),
         }
     }
 

@@ -4,6 +4,15 @@ use crate::answers::{Refusal, Standing, Taken, Totals, Turned};
 use crate::calls::{self, ANSWERS};
 use crate::tables::{Tables, MAX_CAPACITY, SETTINGS};
 
+/// The value that each setting starts at, as a new switch comes up: 1 for the untagged VLAN of each
+/// port (field 2), and 0 for every other setting.
+pub fn start_values() -> [i32; SETTINGS] {
+    let mut settings = [0; SETTINGS];
+    let filled = calls::start_values(&mut settings);
+    filled.expect("it is refused another length alone");
+    settings
+}
+
 /// The change history of one cabinet.
 ///
 /// Changes are taken in and withdrawn in any order; after a [`drain`](Self::drain) the settings are

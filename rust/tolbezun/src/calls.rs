@@ -1,4 +1,4 @@
-//! The ten calls of document 01, "Calls", on lent tables of any lengths and contents.
+//! The calls of documents 01 and 02, on lent tables of any lengths and contents.
 //!
 //! [`Cabinet`](crate::Cabinet) makes them on tables of its own. Each function here says what its
 //! call alters; a refused call alters nothing.
@@ -203,6 +203,14 @@ pub fn plain_run(n: usize, tables: &Tables, settings: &mut [i32]) -> Result<(), 
     // SAFETY: pointers and lengths are those of vectors and of a distinct slice, which may be
     // written, and nothing more is required.
     done(unsafe { call!(tolbezun_plain_run(n, tables.as_ptr(), settings, length)) })
+}
+
+/// Writes the value that each setting starts at to the lent settings, which must be 1,024.
+pub fn start_values(settings: &mut [i32]) -> Result<(), Refusal> {
+    let (settings, length) = (settings.as_mut_ptr(), settings.len());
+    // SAFETY: pointer and length are those of a slice, which may be written, and nothing more is
+    // required.
+    done(unsafe { library::tolbezun_start_values(settings, length) })
 }
 
 fn done(answer: u8) -> Result<(), Refusal> {

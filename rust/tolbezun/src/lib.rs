@@ -39,6 +39,6 @@ mod library;
 mod tables;
 
 pub use answers::{Refusal, Standing, Status, Taken, Totals, Turned};
-pub use cabinet::Cabinet;
+pub use cabinet::{start_values, Cabinet};
 pub use instruction::{program, Instruction};
 pub use tables::{setting, Tables, MAX_CAPACITY, SETTINGS};

@@ -1,13 +1,16 @@
 //! Declarations of the static library's functions, as `include/tolbezun.h` documents them. The tests
 //! hold them to that header.
 
-/// Declares functions that take N, every table as pointer and length, and then their arguments.
+/// Declares functions that take N, every table as pointer and length, and then their arguments; and
+/// such as take no tables.
 macro_rules! declare {
-    ($(
-        fn $name:ident(tables: *$kind:tt $(, $argument:ident: $type:ty)*) -> $answer:ty;
-    )*) => {
-        functions! {$(
-            fn $name(
+    (
+        $(fn $name:ident(tables: *$kind:tt $(, $argument:ident: $type:ty)*) -> $answer:ty;)*
+        without tables:
+        $(fn $other:ident($($parameter:ident: $kind_of:ty),*) -> $other_answer:ty;)*
+    ) => {
+        functions! {
+            $(fn $name(
                 n: usize,
                 held: *$kind u16,
                 held_len: usize,
@@ -38,8 +41,9 @@ macro_rules! declare {
                 view: *$kind i32,
                 view_len: usize
                 $(, $argument: $type)*
-            ) -> $answer;
-        )*}
+            ) -> $answer;)*
+            $(fn $other($($parameter: $kind_of),*) -> $other_answer;)*
+        }
     };
 }
 
@@ -90,6 +94,10 @@ declare! {
     fn tolbezun_standing(tables: *const, timestamp: u64) -> u32;
 
     fn tolbezun_plain_run(tables: *const, settings: *mut i32, settings_len: usize) -> u8;
+
+    without tables:
+
+    fn tolbezun_start_values(settings: *mut i32, settings_len: usize) -> u8;
 }
 
 #[cfg(test)]

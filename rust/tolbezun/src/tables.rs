@@ -56,7 +56,8 @@ pub struct Tables {
 }
 
 impl Tables {
-    /// Tables of the lengths for this capacity, with 0 in every slot.
+    /// Tables of the lengths for this capacity, with 0 in every slot. They are to be set up before
+    /// other calls: the view of tables just set up has the start values.
     pub fn new(capacity: usize) -> Self {
         Self {
             held: vec![0; 1],

@@ -83,6 +83,7 @@ withdraw 0 11 10
 standing 258 1 65546
 take_in_package 1 1 3 0: 10 99
 plain_run 1 99 0: 0 -5 99
+start_values 1 1 99 0: 1 0 99
 not in form 2 18 2 65538
 ";
     let edges = Path::new(env!("CARGO_MANIFEST_DIR")).join("tests/edges.c");

@@ -111,7 +111,28 @@ fn capacities_other_than_1_to_4096_are_refused() {
     for capacity in [1, MAX_CAPACITY] {
         let cabinet = Cabinet::new(capacity).unwrap();
         assert_eq!(cabinet.capacity(), capacity);
-        assert_eq!(*cabinet.tables(), Tables::new(capacity));
+        let set_up = Tables {
+            view: start_values().to_vec(),
+            ..Tables::new(capacity)
+        };
+        assert_eq!(*cabinet.tables(), set_up);
+    }
+}
+
+#[test]
+fn a_new_switch_has_untagged_vlan_1_and_all_else_at_0() {
+    let values = start_values();
+    for port in 0..64 {
+        for field in 0..16 {
+            let value = values[setting(port, field)];
+            assert_eq!(value, i32::from(field == 2), "{port} {field}");
+        }
+    }
+    for length in [0, 1_023, 1_025] {
+        let mut settings = vec![7; length];
+        let answer = tolbezun::calls::start_values(&mut settings);
+        assert_eq!(answer, Err(Refusal::Length));
+        assert_eq!(settings, vec![7; length]);
     }
 }
 
@@ -126,7 +147,7 @@ fn calls_answer_by_name() {
     assert_eq!(cabinet.turn(), Ok(Turned::Ran(10)));
     let standing = |status, withdrawn| Ok(Standing { status, withdrawn });
     assert_eq!(cabinet.standing(30), standing(Status::Invalid, false));
-    assert_eq!(cabinet.take_in(20, &set(34, 0)), Ok(Taken::Done));
+    assert_eq!(cabinet.take_in(20, &set(34, 1)), Ok(Taken::Done));
     assert_eq!(cabinet.standing(20), standing(Status::New, false));
     assert_eq!(cabinet.turn(), Ok(Turned::Ran(20)));
     assert_eq!(cabinet.turn(), Ok(Turned::Stood(30)));
@@ -141,7 +162,7 @@ fn calls_answer_by_name() {
     };
     assert_eq!(cabinet.drain(), Ok(totals));
     assert_eq!(cabinet.current_value(50), Ok(7));
-    assert_eq!(cabinet.value_as_of(10, 34), Ok(0));
+    assert_eq!(cabinet.value_as_of(10, 34), Ok(1));
     assert_eq!(cabinet.value_as_of(u64::MAX, 34), Ok(7));
     assert_eq!(cabinet.plain_run(), Ok(cabinet.tables().view.clone()));
     assert_eq!(cabinet.set_up(), Ok(()));

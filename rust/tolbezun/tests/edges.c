@@ -84,6 +84,11 @@ int main(void)
     printf(" %" PRId32, settings[0]);
     printf(" %d", tolbezun_plain_run(TABLES, settings, 1024));
     printf(": %" PRId32 " %" PRId32 " %" PRId32 "\n", settings[0], settings[1023], settings[1024]);
+    settings[2] = settings[3] = 99;
+    printf("start_values %d %d", tolbezun_start_values(settings, 1023), tolbezun_start_values(NULL, 0));
+    printf(" %" PRId32, settings[2]);
+    printf(" %d", tolbezun_start_values(settings, 1024));
+    printf(": %" PRId32 " %" PRId32 " %" PRId32 "\n", settings[2], settings[3], settings[1024]);
     status[0] = 3;
     printf("not in form %d", tolbezun_withdraw(TABLES, 1));
     printf(" %d", tolbezun_turn(TABLES, timestamp, 1));

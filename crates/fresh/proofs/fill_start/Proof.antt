@@ -2,28 +2,31 @@
 use mathlib.Core.Path.{ap, _∙_}
 use Prim.Native.Nat.{ℕ, _-_}
 use native.Mathlib.Omega.{arith}
-use borrow.Author.Needs.{sfits-of}
 use lib.IntN.{pos}
-use mir.Facts.{toZ-ofZ}
 use Rattle.model.specs.History.{start, tabulate}
 use Rattle.zeros.proofs.Filled.{Filled, fill-none, fill-next, fill-last}
+use Rattle.fresh.proofs.Start.{start-widens, start-read}
 use Rattle.fresh.proofs.fill_start.Statement.{statement}
 use Rattle.fresh.proofs.fill_start.Tie as tie
 
 abbrev Inv-loop : tie.InvT-loop
-Inv-loop values₀ s₀ values s = Filled start (pos 0) s values₀ values
+Inv-loop values₀ table s₀ values s = Filled start (pos 0) s values₀ values
 
 abbrev μ-loop : tie.MeasureT-loop
-μ-loop values₀ s₀ values s = 1024 - s
+μ-loop values₀ table s₀ values s = 1024 - s
+
+cast-values : tie.Need-cast-values Inv-loop μ-loop
+cast-values c = start-widens (c .before .before .before .start-table .ensures) _ (omega arith)
 
 loop-again : tie.Need-loop-again Inv-loop μ-loop
 loop-again c =
-    rw (toZ-ofZ (sfits-of (c .start-value .ok)), c .start-value .ensures) (fill-next (omega arith) (c .before .before .loop .inv))
+    let l = c .before .before .loop in
+    rw (start-read (c .before .before .before .start-table .ensures) (l .s) (omega arith)) (fill-next (omega arith) (l .inv))
 
 returns : tie.Need-returns Inv-loop μ-loop
 returns c =
     let l = c .before .loop in
-    fill-last (omega (arith, l .inv .same)) (l .inv) ∙ ap (λ (k : ℕ). tabulate k start) (c .before .before .pre)
+    fill-last (omega (arith, l .inv .same)) (l .inv) ∙ ap (λ (k : ℕ). tabulate k start) (c .before .before .before .pre)
 
 pub fill-start-spec : {M : Type 1} → statement M
 fill-start-spec =
@@ -31,8 +34,10 @@ fill-start-spec =
     (tie.spec
     Inv-loop
     μ-loop
-    (λ c. fill-none)
     (λ c κs. tt)
+    (λ c. fill-none)
+    (λ c. omega arith)
+    cast-values
     (λ c. omega arith)
     (λ c. omega arith)
     (λ c. omega arith)

@@ -56,6 +56,7 @@ fn every_kind_of_line_is_read() {
         );
     }
     assert_read("plain_run", Call::PlainRun);
+    assert_read("start_values", Call::StartValues);
     assert_read("tables", Call::Tables);
     let file = "dir/tables.json".to_string();
     assert_read("load dir/tables.json", Call::Load { file });
@@ -182,6 +183,7 @@ fn a_word_may_be_too_many() {
         "standing 20 x",
         "take_in_package 0000 len5 x",
         "plain_run x",
+        "start_values x",
         "tables x",
         "load tables.json x",
         "turn x y",

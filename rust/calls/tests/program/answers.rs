@@ -12,6 +12,15 @@ fn list(length: usize, values: &[(usize, i32)]) -> String {
     format!("[{}]", list.join(", "))
 }
 
+/// The 1,024 settings: these, and the others at their start, 1 for the untagged VLAN of each port.
+fn settings(values: &[(usize, i32)]) -> String {
+    let start = (0..64).map(|port| (16 * port + 2, 1));
+    list(
+        1024,
+        &start.chain(values.iter().copied()).collect::<Vec<_>>(),
+    )
+}
+
 #[test]
 fn every_form_of_answer() {
     let of_three = package(&[(10, 0, &set(34, 7)), (10, 1, ""), (77, 1, "")]);
@@ -29,12 +38,14 @@ fn every_form_of_answer() {
             (&take_in(10, set(34, 7)), "done"),
             ("turn", "ran 10"),
             ("standing 30", "standing 2 0"),
-            (&take_in(20, set(34, 0)), "done"),
+            (&take_in(20, set(34, 1)), "done"),
             ("turn", "ran 20"),
             ("turn", "stood 30"),
             ("standing 30", "standing 1 0"),
             ("value_as_of 20 34", "value 7"),
-            ("value_as_of 21 34", "value 0"),
+            ("value_as_of 21 34", "value 1"),
+            ("value_as_of 10 34", "value 1"),
+            ("value_as_of 10 35", "value 0"),
             ("withdraw 10", "done"),
             ("standing 10", "standing 2 1"),
             ("turn", "cleared 10"),
@@ -48,8 +59,9 @@ fn every_form_of_answer() {
             ("current 61", "value -2147483648"),
             (
                 "plain_run",
-                &format!("done {}", list(1024, &[(61, i32::MIN)])),
+                &format!("done {}", settings(&[(61, i32::MIN)])),
             ),
+            ("start_values", &format!("done {}", settings(&[]))),
             (
                 &format!("take_in_package {of_three}"),
                 "done answers [255, 11, 10]",
@@ -71,7 +83,7 @@ fn totals_in_order() {
         // 10 marks 30 and 40, and 20 lets them stand.
         (take_in(10, set(34, 7)), "done"),
         ("turn".to_string(), "ran 10"),
-        (take_in(20, set(34, 0)), "done"),
+        (take_in(20, set(34, 1)), "done"),
         ("withdraw 50".to_string(), "done"),
         ("drain".to_string(), "totals 1 2 1"),
     ];
@@ -95,17 +107,17 @@ fn tables_after_a_change() {
         ("read_count", list(2, &[(0, 1)])),
         ("write_count", list(2, &[(0, 1)])),
         ("read_settings", list(64, &[(0, 34)])),
-        ("seen_values", list(64, &[])),
+        ("seen_values", list(64, &[(0, 1)])),
         ("write_settings", list(64, &[(0, 50)])),
-        ("written_values", list(64, &[])),
-        ("view", list(1024, &[])),
+        ("written_values", list(64, &[(0, 1)])),
+        ("view", settings(&[])),
     ];
     let expected = expected.map(|(key, list)| format!("\"{key}\": {list}"));
     let expected = format!("done\ndone\ntotals 1 0 0\n{{{}}}\n", expected.join(", "));
     assert_eq!(lines, expected);
 }
 
-/// Before it is set up the runner has tables of the right lengths with 0 in every slot.
+/// The runner begins with tables that are set up.
 #[test]
 fn tables_need_not_be_set_up() {
     assert_eq!(
@@ -119,7 +131,7 @@ fn tables_need_not_be_set_up() {
             ("drain".to_string(), "totals 1 0 0"),
             ("current 34".to_string(), "value 7"),
             ("set_up".to_string(), "done"),
-            ("current 34".to_string(), "value 0"),
+            ("current 34".to_string(), "value 1"),
             ("standing 10".to_string(), "refused 10"),
         ],
     );

@@ -58,17 +58,21 @@ fn another_capacity_is_refused_by_every_call() {
 }
 
 /// For 4,097 the lengths are right and the capacity alone is refused. No more is lent for a higher
-/// one.
+/// one. Nothing can set up such tables, so every slot is 0.
 #[test]
 fn tables_above_the_highest_capacity() {
-    let above = outside_tables::line(&Tables::new(4_097)) + "\n";
+    let zeros = |n| Tables {
+        view: vec![0; 1024],
+        ..Tables::new(n)
+    };
+    let above = outside_tables::line(&zeros(4_097)) + "\n";
     for n in [4_097, 4_098, usize::MAX] {
         assert!(
             printed(&["--n", &n.to_string()], "tables\n") == above,
             "{n}"
         );
     }
-    let none = outside_tables::line(&Tables::new(0)) + "\n";
+    let none = outside_tables::line(&zeros(0)) + "\n";
     assert_eq!(printed(&["--n", "0"], "tables\n"), none);
 }
 
@@ -105,6 +109,7 @@ fn help() {
             "standing TS",
             "take_in_package HEX [lenL]",
             "plain_run",
+            "start_values",
             "tables",
             "load FILE",
         ] {

@@ -1,4 +1,5 @@
-//! The cases of document 01, "Cases to know", and the example script.
+//! The cases of document 01, "Cases to know", with the start values of document 02, and the
+//! example scripts.
 
 use crate::programs::{add, constant, copy, instruction, package, set, take, take_in, write};
 use crate::{assert_answers, printed};
@@ -46,10 +47,10 @@ fn p4() {
     assert_case(&[
         (&take_in(20, copy(34, 50)), "done"),
         ("drain", "totals 1 0 0"),
-        (&take_in(10, set(34, 0)), "done"),
+        (&take_in(10, set(34, 1)), "done"),
         ("turn", "ran 10"),
         ("turn", "idle"),
-        ("current 50", "value 0"),
+        ("current 50", "value 1"),
     ]);
 }
 
@@ -72,7 +73,7 @@ fn p6() {
     assert_case(&[
         (&take_in(20, add(34, 1)), "done"),
         ("drain", "totals 1 0 0"),
-        ("current 34", "value 1"),
+        ("current 34", "value 2"),
         (&take_in(10, set(34, 7)), "done"),
         ("turn", "ran 10"),
         ("turn", "ran 20"),
@@ -88,11 +89,11 @@ fn p7() {
         ("drain", "totals 1 0 0"),
         (&take_in(10, set(34, 7)), "done"),
         ("turn", "ran 10"),
-        (&take_in(20, set(34, 0)), "done"),
+        (&take_in(20, set(34, 1)), "done"),
         ("turn", "ran 20"),
         ("turn", "stood 30"),
         ("turn", "idle"),
-        ("current 50", "value 0"),
+        ("current 50", "value 1"),
     ]);
 }
 
@@ -107,7 +108,7 @@ fn p8() {
         ("withdraw 10", "done"),
         ("turn", "cleared 10"),
         ("turn", "idle"),
-        ("current 34", "value 0"),
+        ("current 34", "value 1"),
         ("current 40", "value 0"),
     ]);
 }
@@ -119,8 +120,8 @@ fn p9() {
         (&take_in(10, program), "done"),
         ("turn", "ran 10"),
         ("turn", "idle"),
-        ("current 34", "value 0"),
-        ("value_as_of 11 34", "value 0"),
+        ("current 34", "value 1"),
+        ("value_as_of 11 34", "value 1"),
     ]);
 }
 

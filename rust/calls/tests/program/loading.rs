@@ -7,7 +7,7 @@ use calls::answer::Runner;
 use calls::script::Call;
 use outside::tables::Tables;
 
-/// A call of each of the ten.
+/// A call of each of those that are lent tables.
 const CALLS: [&str; 10] = [
     "set_up",
     "take_in 10 -",
@@ -173,7 +173,7 @@ fn printed_tables_are_loaded_as_they_were() {
         &take_in(10, set(34, 7)),
         "turn",
         "withdraw 40",
-        &take_in(20, set(34, 0)),
+        &take_in(20, set(34, 1)),
     ];
     let rest = [
         "turn",

@@ -11,6 +11,7 @@ use outside::calls::{current_value, plain_run, set_up, standing, value_as_of, Re
 use outside::checker::{drain, turn, Turned};
 use outside::intake::{take_in, withdraw, Taken};
 use outside::package::{entries, take_in_package};
+use outside::start::start_values;
 use outside::tables::{Status, Tables};
 use std::collections::BTreeMap;
 
@@ -120,7 +121,7 @@ impl Script {
     fn query(&mut self, random: &mut Random, source: &Source) {
         let (n, tables) = (self.n, &self.tables);
         let (timestamp, setting) = (source.timestamp(random), source.setting(random));
-        match random.below(10) {
+        match random.below(11) {
             0..3 => {
                 let answer = current_value(n, tables, setting).map(value);
                 self.push(format!("current {setting}"), answer);
@@ -140,11 +141,17 @@ impl Script {
                 });
                 self.push(format!("standing {timestamp}"), answer);
             }
-            _ => {
+            9 => {
                 let mut settings = [0; 1024];
                 let answer = plain_run(n, tables, &mut settings);
                 let answer = answer.map(|()| "done ".to_string() + &list(&settings));
                 self.push("plain_run".to_string(), answer);
+            }
+            _ => {
+                let mut settings = [0; 1024];
+                let answer = start_values(&mut settings);
+                let answer = answer.map(|()| "done ".to_string() + &list(&settings));
+                self.push("start_values".to_string(), answer);
             }
         }
     }
@@ -272,6 +279,7 @@ fn lists_of_calls_have_the_outside_answers_and_tables() {
             "standing refused 4",
             "standing refused 10",
             "plain_run done",
+            "start_values done",
             "tables ",
         ],
         LISTS / 40,

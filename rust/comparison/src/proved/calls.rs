@@ -169,3 +169,8 @@ pub fn standing(n: usize, tables: &Tables, timestamp: u64) -> Result<Standing, u
 pub fn plain_run(n: usize, tables: &Tables, settings: &mut [i32]) -> Result<(), u8> {
     calls::plain_run(n, tables, settings).map_err(Refusal::number)
 }
+
+/// Writes the start values to the lent slice.
+pub fn start_values(settings: &mut [i32]) -> Result<(), u8> {
+    calls::start_values(settings).map_err(Refusal::number)
+}

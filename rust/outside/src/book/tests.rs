@@ -139,7 +139,7 @@ fn turns_are_of_changes_in_the_book() {
     assert_eq!(script.check(), Err(Breach::NotBooked(11)));
 }
 
-/// Change 30 saw 0 in 34, which holds 7 before it in the fresh run.
+/// Change 30 saw 1 in 34, which holds 7 before it in the fresh run.
 #[test]
 fn no_change_is_run_again_in_vain() {
     let mut script = drained();

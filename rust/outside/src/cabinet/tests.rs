@@ -69,7 +69,7 @@ setting 1023 -2147483648
 
 #[test]
 fn the_capacity_is_128() {
-    let program = set(34, 1);
+    let program = set(34, 0);
     let entries: Vec<(u64, u8, &[Instruction])> = (1..=130)
         .map(|timestamp| (timestamp, 0, &program[..]))
         .collect();
@@ -84,5 +84,22 @@ fn the_capacity_is_128() {
         ]
     );
     assert_eq!(lines[130], "turn 1 ran");
-    assert_eq!(lines[257..], ["turn 128 ran", "setting 34 1"]);
+    assert_eq!(lines[257..], ["turn 128 ran", "setting 34 0"]);
+}
+
+#[test]
+fn settings_that_differ_from_their_start_are_listed() {
+    let package = package(&[(
+        10,
+        0,
+        &[set(2, 0), set(3, 0), set(18, 1), set(19, 1), set(1010, -1)].concat(),
+    )]);
+    let expected = "\
+entry 0 taken
+turn 10 ran
+setting 2 0
+setting 19 1
+setting 1010 -1
+";
+    assert_eq!(listing(&package), expected);
 }

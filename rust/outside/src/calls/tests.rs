@@ -1,5 +1,5 @@
 use super::*;
-use crate::examples::{add, copy, four_changes, set, tables, Change, NEW, VALID};
+use crate::examples::{add, copy, four_changes, moved, set, tables, Change, NEW, VALID};
 use crate::tables::MAX_CAPACITY;
 
 /// What each call that tests form answers on these tables, with arguments that are right and with
@@ -21,12 +21,11 @@ fn assert_all_refused(n: usize, tables: &Tables, refusal: Refusal) {
     assert_eq!(lent, [-1; SETTINGS]);
 }
 
-/// The settings other than 0 that a plain run leaves.
+/// The settings that a plain run leaves other than at their start.
 fn plain(n: usize, tables: &Tables) -> Vec<(usize, i32)> {
     let mut lent = [i32::MIN; SETTINGS];
     assert_eq!(plain_run(n, tables, &mut lent), Ok(()));
-    let settings = lent.into_iter().enumerate();
-    settings.filter(|&(_, value)| value != 0).collect()
+    moved(&lent)
 }
 
 #[test]
@@ -64,13 +63,14 @@ fn lengths_come_before_form_and_form_before_arguments() {
 // Set up.
 
 #[test]
-fn set_up_fills_every_table_with_0() {
+fn set_up_fills_every_table_with_0_and_the_view_with_the_start_values() {
     let mut tables = four_changes();
     tables.held[0] = 7;
     tables.order.fill(9);
     tables.view.fill(-1);
     assert_eq!(set_up(6, &mut tables), Ok(()));
     assert_eq!(tables, Tables::new(6));
+    assert_eq!(tables.view, settings_at_start());
     let mut largest = Tables::new(MAX_CAPACITY);
     assert_eq!(set_up(MAX_CAPACITY, &mut largest), Ok(()));
 }
@@ -118,8 +118,8 @@ fn p2_as_of_15_it_is_7() {
     };
     let tables = tables(2, &[1, 0], &[change(20, 5), change(10, 7)]);
     for (timestamp, value) in [
-        (1, 0),
-        (10, 0),
+        (1, 1),
+        (10, 1),
         (11, 7),
         (15, 7),
         (20, 7),
@@ -157,7 +157,7 @@ fn a_timestamp_of_0_is_4_and_infinity_is_allowed() {
     assert_eq!(as_of(0, 1024), Err(Refusal::Timestamp));
     assert_eq!(as_of(u64::MAX, 34), Ok(-5));
     assert_eq!(as_of(u64::MAX, 1024), Err(Refusal::Setting));
-    assert_eq!(as_of(1, 34), Ok(0));
+    assert_eq!(as_of(1, 34), Ok(1));
 }
 
 // Standing.

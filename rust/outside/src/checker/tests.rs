@@ -49,7 +49,7 @@ fn p4_a_write_of_an_equal_value() {
     let mut script = Script::new(4);
     script.take_in(20, &copy(34, 50));
     script.drain();
-    script.take_in(10, &set(34, 0));
+    script.take_in(10, &set(34, 1));
     assert_eq!(script.drain(), [(10, Ran)]);
 }
 
@@ -81,7 +81,7 @@ fn p7_the_seen_values_hold_again() {
     script.drain();
     script.take_in(10, &set(34, 7));
     assert_eq!(script.turn(), Some((10, Ran)));
-    script.take_in(20, &set(34, 0));
+    script.take_in(20, &set(34, 1));
     assert_eq!(script.drain(), [(20, Ran), (30, Stood)]);
 }
 
@@ -93,6 +93,7 @@ fn p8_a_withdrawal() {
     assert_eq!(script.view(), [(34, 7), (40, 3)]);
     script.withdraw(10);
     assert_eq!(script.drain(), [(10, Cleared)]);
+    assert_eq!((script.tables.view[34], script.tables.view[40]), (1, 0));
     assert_eq!(script.view(), []);
 }
 
@@ -155,13 +156,13 @@ fn p11_a_change_before_one_that_depends_on_it() {
 #[test]
 fn a_write_that_vanishes_on_a_second_run_counts() {
     let mut script = Script::new(4);
-    script.take_in(20, &if_zero(34, &set(50, 9)));
-    script.take_in(30, &copy(50, 60));
+    script.take_in(20, &if_zero(35, &set(50, 9)));
+    script.take_in(30, &copy(50, 66));
     script.drain();
-    assert_eq!(script.view(), [(50, 9), (60, 9)]);
-    script.take_in(10, &set(34, 1));
+    assert_eq!(script.view(), [(50, 9), (66, 9)]);
+    script.take_in(10, &set(35, 1));
     assert_eq!(script.drain(), [(10, Ran), (20, Ran), (30, Ran)]);
-    assert_eq!(script.view(), [(34, 1)]);
+    assert_eq!(script.view(), [(35, 1)]);
 }
 
 /// "Dropping a faulted run's reads, so that it is never tried again."
@@ -183,9 +184,9 @@ fn a_run_that_faults_again_or_for_the_first_time_writes_nothing() {
     let mut script = Script::new(4);
     script.take_in(10, &set(34, 50));
     script.take_in(20, &write_named_by(34));
-    script.take_in(30, &copy(50, 60));
+    script.take_in(30, &copy(50, 66));
     script.drain();
-    assert_eq!(script.view(), [(34, 50), (50, 50), (60, 50)]);
+    assert_eq!(script.view(), [(34, 50), (50, 50), (66, 50)]);
     script.take_in(15, &set(34, 1024));
     assert_eq!(script.drain(), [(15, Ran), (20, Ran), (30, Ran)]);
     assert_eq!(script.view(), [(34, 1024)]);
@@ -193,8 +194,9 @@ fn a_run_that_faults_again_or_for_the_first_time_writes_nothing() {
     assert_eq!(script.drain(), [(10, Cleared)]);
     script.withdraw(15);
     assert_eq!(script.drain(), [(15, Cleared), (20, Ran)]);
-    assert_eq!(script.view(), []);
-    assert_eq!(script.reads(20), [(34, 0)]);
+    // It writes the 1 that it reads to setting 1.
+    assert_eq!(script.view(), [(1, 1)]);
+    assert_eq!(script.reads(20), [(34, 1)]);
 }
 
 // Which change has the turn.
@@ -255,7 +257,7 @@ fn the_writes_of_a_withdrawn_change_count_until_its_turn() {
     script.take_in(20, &copy(34, 60));
     assert_eq!(value_as_of(4, &script.tables, 15, 34), Ok(7));
     assert_eq!(script.drain(), [(5, Ran), (10, Cleared), (20, Ran)]);
-    assert_eq!(script.view(), []);
+    assert_eq!(script.view(), [(60, 1)]);
 }
 
 #[test]
@@ -401,7 +403,7 @@ fn a_valid_withdrawn_change_with_lists_has_no_turn() {
 fn only_changed_settings_without_a_later_writer_are_stored_to_a_wrong_view() {
     let changes = [
         Change {
-            program: [set(34, 1), set(35, 2), set(36, 0)].concat(),
+            program: [set(33, 1), set(34, 1), set(35, 2), set(36, 0)].concat(),
             ..change(10, NEW, &[], &[])
         },
         change(20, VALID, &[], &[(35, 9)]),
@@ -409,7 +411,7 @@ fn only_changed_settings_without_a_later_writer_are_stored_to_a_wrong_view() {
     let mut tables = tables(2, &[0, 1], &changes);
     tables.view.fill(-1);
     let mut expected = tables.view.clone();
-    expected[34] = 1;
+    expected[33] = 1;
     assert_eq!(drain(2, &mut tables).map(|totals| totals.ran), Ok(1));
     assert_eq!(tables.view, expected);
 }
@@ -450,7 +452,7 @@ fn slots_behind_shorter_lists_become_0() {
     assert_eq!(drain(2, &mut tables).map(|totals| totals.ran), Ok(1));
     let mut expected = Change {
         program: copy(34, 50),
-        ..change(10, VALID, &[(34, 0)], &[(50, 0)])
+        ..change(10, VALID, &[(34, 1)], &[(50, 1)])
     };
     assert_eq!(
         tables,

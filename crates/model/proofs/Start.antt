@@ -1,0 +1,30 @@
+-- The start values: those of the table, and by their rule.
+use mathlib.Core.Path.{_≡_, refl, sym, ap, _∙_}
+use mathlib.Core.Bool.{cond}
+use mathlib.Core.List.{List}
+use Prim.Native.Nat.{ℕ, _+_, _*_, _≤_, _<_}
+use native.Mathlib.Omega.{arith}
+use lib.Dec.{eqb}
+use lib.IntN.{ℤ, pos}
+use lib.ListN.{length, List·getD-eq-default}
+use Rattle.start_values.specs.StartValues.{startTable}
+use Rattle.start_values.proofs.Rule.{length-table, table-field}
+use Rattle.machine.specs.Settings.{settingCount, valueIn}
+use Rattle.model.specs.History.{start, tabulate, allSettings}
+use Rattle.model.proofs.Tabulate.{tabulate-is}
+
+pub start-at : (s : ℕ) → start s ≡ valueIn startTable s
+unfolding start
+start-at s = refl
+
+-- 0 past the last setting
+pub start-past : (s : ℕ) → settingCount ≤ s → start s ≡ pos 0
+start-past s h = start-at s ∙ List·getD-eq-default startTable (pos 0) (omega (arith, length-table))
+
+-- all of them
+pub all-start : allSettings start ≡ startTable
+all-start = ap (λ (n : ℕ). tabulate n start) (sym length-table) ∙ tabulate-is startTable start (pos 0) (λ s h. start-at s)
+
+-- document 02, R-1: "Every setting of field 2 now starts at 1 and all others at 0."
+pub start-field : (port field : ℕ) → port < 64 → field < 16 → start (port * 16 + field) ≡ cond (eqb field 2) (pos 1) (pos 0)
+start-field port field p f = start-at (port * 16 + field) ∙ table-field port field p f
