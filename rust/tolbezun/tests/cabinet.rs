@@ -1,8 +1,8 @@
 //! A cabinet's calls, their answers by name, and what people read.
 
 use tolbezun::{
-    program, setting, Cabinet, Instruction, Refusal, Standing, Status, Tables, Taken, Totals,
-    Turned, MAX_CAPACITY, SETTINGS,
+    program, setting, start_values, Cabinet, Instruction, Refusal, Standing, Status, Tables, Taken,
+    Totals, Turned, MAX_CAPACITY, SETTINGS,
 };
 
 /// A change that sets a setting.

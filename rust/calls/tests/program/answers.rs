@@ -153,7 +153,7 @@ fn every_refusal() {
             ("take_in 18446744073709551615 -", "refused 4"),
             ("withdraw 0", "refused 4"),
             ("value_as_of 0 34", "refused 4"),
-            ("value_as_of 18446744073709551615 34", "value 0"),
+            ("value_as_of 18446744073709551615 34", "value 1"),
             ("standing 18446744073709551615", "refused 4"),
             ("current 1024", "refused 5"),
             ("current 65536", "refused 5"),

@@ -134,7 +134,7 @@ fn any_view_is_lent() {
             ("turn", "idle"),
             ("current 34", "value 2147483647"),
             ("current 35", "value -2147483648"),
-            ("value_as_of 10 34", "value 0"),
+            ("value_as_of 10 34", "value 1"),
         ],
     );
 }
