@@ -143,10 +143,11 @@ impl Case {
         }
     }
 
-    /// New changes that set a setting, and between them drained ones that read it.
+    /// New changes that set a setting, none to the 1 that it starts at, and between them drained
+    /// ones that read it.
     fn half(held: usize) -> Self {
         let half = |first: usize| (first..held).step_by(2);
-        let setters = changes(half(0), |rank| set([HALVED], 1 + rank as i32));
+        let setters = changes(half(0), |rank| set([HALVED], 2 + rank as i32));
         Self {
             drained: changes(half(1), |rank| pass_on(HALVED, HALVED + 1 + rank % 900)),
             ran: Some(held),
