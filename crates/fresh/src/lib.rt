@@ -13,19 +13,19 @@ ghost use Rattle.model.specs.History.{start, allSettings};
 ghost use Rattle.model.specs.Tables.{programIn};
 ghost use Rattle.fresh.specs.HeldRuns.{heldRun, HeldPrograms};
 
-// The start value of a setting.
+// The start value of a setting, by the rule of the table: 1 in field 2, else 0.
 pub fn start_value(s: usize) -> i32
     ensures { λ r. ⌜ r ≡ start s ⌝ }
 {
     if s < 1024 {
-        let table = start_table();
-        table[s] as i32
-    } else {
-        0
+        if s % 16 == 2 {
+            return 1;
+        }
     }
+    0
 }
 
-// Every setting set to its start value.
+// Every setting set to its start value, from the table.
 pub fn fill_start(values: &mut [i32])
     requires { ⌜ length (now values) ≡ 1024 ⌝ }
     ensures { λ _. ⌜ now (values .exit) ≡ allSettings start ⌝ }
@@ -33,7 +33,7 @@ pub fn fill_start(values: &mut [i32])
     let table = start_table();
     let mut s = 0;
     while s < 1024 {
-        values[s] = table[s] as i32;
+        values[s] = table[s];
         s += 1;
     }
 }

@@ -7,8 +7,8 @@ use native.Mathlib.Omega.{arith}
 use lib.Dec.{eqb}
 use lib.IntN.{ℤ, pos}
 use lib.ListN.{length, List·getD-eq-default}
-use Rattle.start_values.specs.StartValues.{startTable}
-use Rattle.start_values.proofs.Rule.{length-table, table-field}
+use Rattle.start_values.specs.StartValues.{startTable, startRule}
+use Rattle.start_values.proofs.Rule.{table-at, table-field, length-table}
 use Rattle.machine.specs.Settings.{settingCount, valueIn}
 use Rattle.model.specs.History.{start, tabulate, allSettings}
 use Rattle.model.proofs.Tabulate.{tabulate-is}
@@ -26,5 +26,8 @@ pub all-start : allSettings start ≡ startTable
 all-start = ap (λ (n : ℕ). tabulate n start) (sym length-table) ∙ tabulate-is startTable start (pos 0) (λ s h. start-at s)
 
 -- document 02, R-1: "Every setting of field 2 now starts at 1 and all others at 0."
+pub start-rule : (s : ℕ) → s < settingCount → start s ≡ startRule s
+start-rule s h = start-at s ∙ table-at s h
+
 pub start-field : (port field : ℕ) → port < 64 → field < 16 → start (port * 16 + field) ≡ cond (eqb field 2) (pos 1) (pos 0)
 start-field port field p f = start-at (port * 16 + field) ∙ table-field port field p f

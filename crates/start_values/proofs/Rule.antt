@@ -7,7 +7,7 @@ use native.Mathlib.Omega.{arith}
 use lib.Dec.{eqb}
 use lib.IntN.{ℤ, pos}
 use lib.ListN.{length, getD}
-use mir.Syntax.{w8}
+use mir.Syntax.{w32}
 use mir.Val.{SFits}
 use mir.Facts.{sfits-lit}
 use Rattle.start_values.specs.StartValues.{startTable, startRule}
@@ -45,10 +45,10 @@ pub length-table : length startTable ≡ 1024
 unfolding startTable
 length-table = refl
 
--- each value fits the signed byte that the code has for it
-fits-rule : (b : Bool) → SFits w8 (cond b (pos 1) (pos 0))
+-- each value fits the 32 bits of a setting
+fits-rule : (b : Bool) → SFits w32 (cond b (pos 1) (pos 0))
 fits-rule true = sfits-lit tt
 fits-rule false = sfits-lit tt
 
-pub table-fits : (s : ℕ) → s < 1024 → SFits w8 (getD startTable s (pos 0))
-table-fits s h = subst⁻¹ (SFits w8) (table-at s h) (fits-rule (eqb (s % 16) 2))
+pub table-fits : (s : ℕ) → s < 1024 → SFits w32 (getD startTable s (pos 0))
+table-fits s h = subst⁻¹ (SFits w32) (table-at s h) (fits-rule (eqb (s % 16) 2))

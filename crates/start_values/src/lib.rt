@@ -6,7 +6,7 @@ ghost use mathlib.Core.Path.{_≡_};
 ghost use Rattle.start_values.specs.StartValues.{startTable};
 
 // The table.
-pub fn start_table() -> [i8; 1024]
+pub fn start_table() -> [i32; 1024]
     ensures { λ r. ⌜ r ≡ startTable ⌝ }
 {
     START_TABLE

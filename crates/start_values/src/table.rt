@@ -1,5 +1,5 @@
 // The value that each setting starts at, 16 fields for each of 64 ports.
-pub const START_TABLE: [i8; 1024] = [
+pub const START_TABLE: [i32; 1024] = [
     0,
     0,
     1, // port 0: untagged VLAN

@@ -5,7 +5,7 @@ use native.Mathlib.Omega.{arith}
 use lib.IntN.{pos}
 use Rattle.model.specs.History.{start, tabulate}
 use Rattle.zeros.proofs.Filled.{Filled, fill-none, fill-next, fill-last}
-use Rattle.fresh.proofs.Start.{start-widens, start-read}
+use Rattle.fresh.proofs.Start.{start-read}
 use Rattle.fresh.proofs.fill_start.Statement.{statement}
 use Rattle.fresh.proofs.fill_start.Tie as tie
 
@@ -15,13 +15,10 @@ Inv-loop values₀ table s₀ values s = Filled start (pos 0) s values₀ values
 abbrev μ-loop : tie.MeasureT-loop
 μ-loop values₀ table s₀ values s = 1024 - s
 
-cast-values : tie.Need-cast-values Inv-loop μ-loop
-cast-values c = start-widens (c .before .before .before .start-table .ensures) _ (omega arith)
-
 loop-again : tie.Need-loop-again Inv-loop μ-loop
 loop-again c =
     let l = c .before .before .loop in
-    rw (start-read (c .before .before .before .start-table .ensures) (l .s) (omega arith)) (fill-next (omega arith) (l .inv))
+    rw (start-read (l .s) (omega arith) (c .before .before .before .start-table .ensures)) (fill-next (omega arith) (l .inv))
 
 returns : tie.Need-returns Inv-loop μ-loop
 returns c =
@@ -37,7 +34,7 @@ fill-start-spec =
     (λ c κs. tt)
     (λ c. fill-none)
     (λ c. omega arith)
-    cast-values
+    (λ c. omega arith)
     (λ c. omega arith)
     (λ c. omega arith)
     (λ c. omega arith)

@@ -8,6 +8,7 @@ use outside::calls;
 use outside::intake::{self, Taken};
 use outside::package::{self, ANSWERS, DONE};
 use outside::program::SETTINGS;
+use outside::start::start_values;
 use outside::tables::INFINITY;
 use tolbezun::Tables;
 
@@ -91,6 +92,18 @@ fn queries(rows: &Rows, tables: &Tables, oldest: u64) {
         |n, tables| {
             let mut settings = [0; SETTINGS];
             calls::plain_run(n, tables, &mut settings).map(|()| settings)
+        },
+    );
+    rows.row(
+        "start values",
+        tables,
+        |_, _| {
+            let mut settings = [0; SETTINGS];
+            proved::start_values(&mut settings).map(|()| settings)
+        },
+        |_, _| {
+            let mut settings = [0; SETTINGS];
+            start_values(&mut settings).map(|()| settings)
         },
     );
 }
