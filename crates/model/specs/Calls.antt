@@ -6,6 +6,7 @@ use Prim.Native.Nat.{ℕ}
 use lib.Dec.{eqb}
 use lib.IntN.{ℤ, pos}
 use lib.ListN.{length, drop}
+use Rattle.start_values.specs.StartValues.{startTable}
 use Rattle.machine.specs.Settings.{settingCount, valueIn}
 use Rattle.model.specs.declared.Answer.{Answer}
 use Rattle.model.specs.declared.Answer.the-variants as answer
@@ -240,9 +241,9 @@ plainRun n T settings =
 
 -- ---- the start values
 
--- document 02, R-1: "shipped as one constant table of 1,024 numbers". It is lent no tables but a slice of 1,024, which gets them; another length is refusal 1
+-- document 02, R-1: "The start values are shipped as one constant table of 1,024 numbers". The call is lent no tables, but a slice of 1,024 that gets them; another length is refusal 1
 unfoldable pub startValues : List ℤ → PlainReply
 startValues settings =
     let r = firstOf (test 1 (not (eqb (length settings) settingCount)) ∷ []) in
-    cond (eqb r 0) (record { answer = answer.Done; settings = allSettings start })
+    cond (eqb r 0) (record { answer = answer.Done; settings = startTable })
     (record { answer = answer.Refused r; settings = settings })

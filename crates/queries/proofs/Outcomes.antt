@@ -18,6 +18,7 @@ use Rattle.model.specs.Tables.{Tables, heldCount, programAt, decode}
 use Rattle.model.specs.Form.{lengthsFit, Formed}
 use Rattle.model.specs.Refusals.{test, firstOf, noTimestamp, noTime, noSetting, notHeld, faultOf}
 use Rattle.model.specs.Calls.{unlessRead, currentValue, valueAsOf, standingOf, standing, plainReply, plainRun, startValues}
+use Rattle.model.proofs.Start.{all-start}
 use Rattle.model.proofs.Tables.{status-at, withdrawn-at}
 use Rattle.model.proofs.Form.{facts}
 use Rattle.search.specs.Searches.{PlacesWithin, WriteLists}
@@ -105,4 +106,4 @@ module _ (settings : List ℤ) where
 
   pub start-done : {values : List ℤ} → length settings ≡ settingCount → values ≡ allSettings start → plainReply answer.Done values ≡ startValues settings
   unfolding startValues
-  start-done l e = rw (eq-eqb _ settingCount l) (ap (plainReply answer.Done) e)
+  start-done l e = rw (eq-eqb _ settingCount l) (ap (plainReply answer.Done) (e ∙ all-start))
