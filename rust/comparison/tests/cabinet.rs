@@ -44,21 +44,23 @@ fn assert_listed(input: &[u8]) -> String {
     written
 }
 
+/// An operation with its number, and a write of register 0.
+fn program(first: u8, n: i32, setting: i32) -> Vec<u8> {
+    let parts = [(first, n), (op::WRITE, setting)];
+    let instruction = |(op, n)| Instruction {
+        op,
+        n,
+        ..Instruction::default()
+    };
+    parts
+        .map(instruction)
+        .iter()
+        .flat_map(|i| i.to_bytes())
+        .collect()
+}
+
 /// Document 01's package of 70 bytes.
 fn package_of_70_bytes() -> Vec<u8> {
-    let program = |first, n, setting| {
-        let parts = [(first, n), (op::WRITE, setting)];
-        let instruction = |(op, n)| Instruction {
-            op,
-            n,
-            ..Instruction::default()
-        };
-        parts
-            .map(instruction)
-            .iter()
-            .flat_map(|i| i.to_bytes())
-            .collect()
-    };
     lay_out(&[
         Entry::Change {
             timestamp: 20,
@@ -145,19 +147,7 @@ fn is_untagged_0(line: &str) -> bool {
 /// Settings at 0 and at 1, which some start at.
 #[test]
 fn settings_that_differ_from_their_start_are_listed() {
-    let set = |value: i32, setting: i32| {
-        let constant = Instruction {
-            op: op::CONSTANT,
-            n: value,
-            ..Instruction::default()
-        };
-        let write = Instruction {
-            op: op::WRITE,
-            n: setting,
-            ..Instruction::default()
-        };
-        [constant.to_bytes(), write.to_bytes()].concat()
-    };
+    let set = |value, setting| program(op::CONSTANT, value, setting);
     let program = [set(0, 2), set(0, 3), set(1, 18), set(1, 19), set(-1, 1010)].concat();
     let timestamp = 10;
     let package = lay_out(&[Entry::Change { timestamp, program }]);
