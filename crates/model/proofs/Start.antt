@@ -1,12 +1,11 @@
 -- The start values: those of the table, and by their rule.
 use mathlib.Core.Path.{_≡_, refl, sym, ap, _∙_}
 use mathlib.Core.Bool.{cond}
-use mathlib.Core.List.{List}
 use Prim.Native.Nat.{ℕ, _+_, _*_, _≤_, _<_}
 use native.Mathlib.Omega.{arith}
 use lib.Dec.{eqb}
-use lib.IntN.{ℤ, pos}
-use lib.ListN.{length, List·getD-eq-default}
+use lib.IntN.{pos}
+use lib.ListN.{List·getD-eq-default}
 use Rattle.start_values.specs.StartValues.{startTable, startRule}
 use Rattle.start_values.proofs.Rule.{table-at, table-field, length-table}
 use Rattle.machine.specs.Settings.{settingCount, valueIn}

@@ -1,5 +1,5 @@
 -- Lines put by rising number.
-use mathlib.Core.Path.{_≡_, refl, sym, ap, ap₂, subst, _∙_}
+use mathlib.Core.Path.{_≡_, refl, sym, ap₂, subst, _∙_}
 use mathlib.Core.List.{List}
 use Prim.Native.Nat.{ℕ, _+_, _*_, _≤_, _<_}
 use native.Mathlib.Numerals.{add-one}
@@ -9,12 +9,11 @@ use lib.ListN.{length}
 use mir.Syntax.{w32}
 use mir.Val.{SFits, toZ, ofZ}
 use mir.ValLaws.{toZ-ofZ}
-use Rattle.machine.specs.Settings.{settingCount, valueIn}
+use Rattle.machine.specs.Settings.{valueIn}
 use Rattle.text.specs.Pieces.{Put}
 use Rattle.text.proofs.Pieces.{put-nothing, put-then}
 use Rattle.lines.specs.Lines.{settingLine}
-use Rattle.model.specs.History.{start, allSettings}
-use Rattle.model.proofs.Values.{value-allSettings}
+use Rattle.model.specs.History.{start}
 use Rattle.replies.specs.Replies.{linesBelow, settingOf}
 
 -- the first j of count lines are put
@@ -42,8 +41,6 @@ module _ {line : ℕ → List ℕ} {at count : ℕ} {before after : List ℕ} {e
   pub below-all : count ≤ j → Put at (linesBelow count line) before after end
   below-all h = let e : j ≡ count = omega (arith, h, b .within) in subst (λ (k : ℕ). Put at (linesBelow k line) before after end) e (b .put)
 
--- a value of a list, and its start value, read from their bits
-pub setting-read : (s : ℕ) (view : List ℤ) {starts : List ℤ} → s < settingCount → starts ≡ allSettings start → SFits w32 (valueIn starts s) → SFits w32 (valueIn view s) → settingLine s (toZ w32 (ofZ w32 (valueIn starts s))) (toZ w32 (ofZ w32 (valueIn view s))) ≡ settingOf view s
-setting-read s view {starts} h e f g =
-    let first = toZ-ofZ w32 (valueIn starts s) f ∙ ap (λ (l : List ℤ). valueIn l s) e ∙ value-allSettings start s h in
-    ap₂ (settingLine s) first (toZ-ofZ w32 (valueIn view s) g)
+-- a start value and a value of a list, read from their bits
+pub setting-read : (s : ℕ) (view : List ℤ) {first : ℤ} → SFits w32 first → first ≡ start s → SFits w32 (valueIn view s) → settingLine s (toZ w32 (ofZ w32 first)) (toZ w32 (ofZ w32 (valueIn view s))) ≡ settingOf view s
+setting-read s view {first} f e g = ap₂ (settingLine s) (toZ-ofZ w32 first f ∙ e) (toZ-ofZ w32 (valueIn view s) g)

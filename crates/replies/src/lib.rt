@@ -1,6 +1,6 @@
 // The reply to a package as text: its entries, the turns of one drain, and the settings that differ from their start.
 use answer_numbers::answer_number;
-use fresh::fill_start;
+use fresh::start_value;
 use history::Answer;
 use history::Turned;
 use history::turn;
@@ -119,12 +119,10 @@ fn put_settings(view: &[i32], text: &mut [u8], at: usize) -> usize
     ensures { λ r. ⌜ Put at (settingLines (now (view .entry))) (now (text .entry)) (now (text .exit)) r ⌝ }
     ensures { λ r. ⌜ r ≤ at + 65536 ⌝ }
 {
-    let mut start = [0i32; 1024];
-    fill_start(&mut start);
     let mut end = at;
     let mut s = 0;
     while s < view.len() {
-        end = put_setting(s, start[s], view[s], text, end);
+        end = put_setting(s, start_value(s), view[s], text, end);
         s += 1;
     }
     end

@@ -1,5 +1,5 @@
 -- `replies::put_settings` meets its contract: line by line. Assumes nothing.
-use mathlib.Core.Path.{refl, ap}
+use mathlib.Core.Path.{ap}
 use Prim.Native.Nat.{ℕ, _-_}
 use native.Mathlib.Omega.{arith}
 use borrow.Author.Needs.{sfits-of}
@@ -11,30 +11,21 @@ use Rattle.replies.proofs.put_settings.Statement.{statement}
 use Rattle.replies.proofs.put_settings.Tie as tie
 
 abbrev Inv-loop : tie.InvT-loop
-Inv-loop view text₀ at start end₀ s₀ text end s = Below (settingOf view) at (length view) text₀ text end s
+Inv-loop view text₀ at end₀ s₀ text end s = Below (settingOf view) at (length view) text₀ text end s
 
 abbrev μ-loop : tie.MeasureT-loop
-μ-loop view text₀ at start end₀ s₀ text end s = length view - s
-
-abbrev filled : tie.At-loop Inv-loop μ-loop → tie.After-fill-start Inv-loop μ-loop
-filled l = l .before .before
+μ-loop view text₀ at end₀ s₀ text end s = length view - s
 
 abbrev entry : tie.At-loop Inv-loop μ-loop → tie.Start Inv-loop μ-loop
-entry l = filled l .before .before .before
+entry l = l .before .before
 
 loop-holds : tie.Need-loop-holds Inv-loop μ-loop
 loop-holds c = below-none _ _ _ _
 
 mul-put-setting : tie.Need-mul-put-setting Inv-loop μ-loop
 mul-put-setting c =
-    let s = entry (c .before) in
-    record { fits = omega (arith, c .loop-test .taken, s .pre .0) }
-
-array-copy-out-put-setting : tie.Need-array-copy-out-put-setting Inv-loop μ-loop
-array-copy-out-put-setting c = omega (arith, c .loop-test .taken, entry (c .before) .pre .0)
-
-mul-put-setting-2 : tie.Need-mul-put-setting-2 Inv-loop μ-loop
-mul-put-setting-2 c = mul-put-setting (c .before)
+    let m = c .before in
+    record { fits = omega (arith, m .loop-test .taken, entry (m .before) .pre .0) }
 
 shared-slice-copy-out-put-setting : tie.Need-shared-slice-copy-out-put-setting Inv-loop μ-loop
 shared-slice-copy-out-put-setting c = c .before .loop-test .taken
@@ -46,24 +37,24 @@ put-setting-requires c κs =
     let b = m .before .loop .inv in
     omega (arith, m .loop-test .taken, s .pre .0, s .pre .1, b .short, b .same)
 
-abbrev turn : tie.After-slice-known2 Inv-loop μ-loop → tie.In-loop Inv-loop μ-loop
-turn c = c .before .before .before .before .before .before
-
 add-s : tie.Need-add-s Inv-loop μ-loop
 add-s c =
-    let m = turn c in
+    let m = c .before .before .before .before .before .before in
     let s = entry (m .before) in
     record { fits = omega (arith, m .loop-test .taken, s .pre .0) }
 
 loop-less : tie.Need-loop-less Inv-loop μ-loop
-loop-less c = omega (arith, turn c .loop-test .taken)
+loop-less c =
+    let m = c .before .before .before .before .before .before in
+    omega (arith, m .loop-test .taken)
 
 loop-again : tie.Need-loop-again Inv-loop μ-loop
 loop-again c =
-    let m = turn c in
+    let m = c .before .before .before .before .before .before in
     let s = entry (m .before) in
     let p = c .before .before .put-setting in
-    let e = setting-read (m .before .loop .s) (s .args .view .now) (omega (arith, m .loop-test .taken, s .pre .0)) (filled (m .before) .fill-start .ensures) (sfits-of (c .before .before .before .before .before .put-setting-arg .given)) (sfits-of (c .before .before .before .before .put-setting-arg2 .given)) in
+    let v = c .before .before .before .before .before .start-value in
+    let e = setting-read (m .before .loop .s) (s .args .view .now) (sfits-of (v .ok)) (v .ensures) (sfits-of (c .before .before .before .before .put-setting-arg .given)) in
     below-next (m .before .loop .inv) (m .loop-test .taken) (omega (arith, s .pre .1)) (put-as (p .ensures .0) e) (p .ensures .1) (p .kept .1 .1 .1 .0)
 
 same-length : tie.Need-same-length Inv-loop μ-loop
@@ -84,12 +75,9 @@ put-settings-spec =
     (tie.spec
     Inv-loop
     μ-loop
-    (λ c. refl)
-    (λ c κs. refl)
     loop-holds
+    (λ c κs. tt)
     mul-put-setting
-    array-copy-out-put-setting
-    mul-put-setting-2
     shared-slice-copy-out-put-setting
     put-setting-requires
     add-s
