@@ -2,6 +2,7 @@
 
 use outside::checker::{Turn, Turned};
 use outside::program::{self, Access, SETTINGS};
+use outside::start::{settings_at_start, start_value};
 use outside::tables::{Status, Tables, INFINITY};
 use std::collections::{BTreeMap, BTreeSet};
 
@@ -285,7 +286,7 @@ impl Drain {
     /// What the drain, which is at its end, left as it was.
     pub fn left(&self, after: &Tables) -> Vec<DrainEvent> {
         let mut events = Vec::new();
-        let mut values = [0; SETTINGS];
+        let mut values = settings_at_start();
         for &place in &after.order[..after.held_count()] {
             let place = usize::from(place);
             let mut reads = after.read_list(place);
@@ -309,10 +310,8 @@ fn previous_value(tables: &Tables, timestamp: u64, setting: u16) -> i32 {
         let write = writes.find(|write| write.setting == setting)?;
         Some((tables.timestamps[place], write.value))
     };
-    below
-        .filter_map(written)
-        .max()
-        .map_or(0, |(_, value)| value)
+    let highest = below.filter_map(written).max();
+    highest.map_or_else(|| start_value(setting.into()), |(_, value)| value)
 }
 
 /// Whether the run that left this read list faulted. Settings that it did not read do not matter.

@@ -10,7 +10,7 @@ use comparison::seeds::{count_reached, with_seeds};
 use outside::calls::Refusal;
 use outside::package::ANSWERS;
 use outside::program::{self, SETTINGS};
-use outside::start::start_value;
+use outside::start::{settings_at_start, start_value};
 use outside::tables::{in_form, Status, Tables, INFINITY, LIST_ENTRIES, MAX_CAPACITY};
 
 /// How many random tables calls are made on.
@@ -179,7 +179,7 @@ fn count_plain_run(reached: &mut Reached<Event>, tables: &Tables) {
     let held = tables.held_count();
     reached.count(Event::PlainRun);
     reached.count_if(held == 0, Event::PlainRunOfNone);
-    let mut settings = [0; SETTINGS];
+    let mut settings = settings_at_start();
     let mut written = [false; SETTINGS];
     let [mut passes_over, mut faults, mut reads_back, mut overwrites] = [false; 4];
     for place in tables.order[..held].iter().copied().map(usize::from) {

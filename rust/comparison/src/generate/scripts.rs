@@ -4,6 +4,7 @@ use super::packages::{self, lay_out, Breach};
 use super::{damage, tables, Random, Settings, EXTREMES};
 use outside::package::{Entry, ANSWERS};
 use outside::program::{op, Access, Instruction, INSTRUCTION_BYTES, MAX_INSTRUCTIONS, SETTINGS};
+use outside::start::settings_at_start;
 use outside::tables::{Status, Tables, INFINITY, LIST_ENTRIES, PROGRAM_BYTES};
 use std::collections::HashSet;
 
@@ -378,7 +379,7 @@ impl Source {
 
 /// Ties changes and the view to the write lists, as [`Shape::settled`] says.
 fn settle(random: &mut Random, tables: &mut Tables) {
-    let mut values = [0; SETTINGS];
+    let mut values = settings_at_start();
     let mut last_invalid = Vec::new();
     for rank in 0..tables.held_count() {
         let place = usize::from(tables.order[rank]);
