@@ -49,13 +49,13 @@ static const uint8_t take_200[] = TAKE(200);
 
 static void show(const char *when)
 {
-    uint64_t totals[3];
-    if (tolbezun_drain(TABLES, totals, 3) != 0) {
+    uint64_t totals[4];
+    if (tolbezun_drain(TABLES, totals, 4) != 0) {
         printf("the drain was refused\n");
         return;
     }
-    printf("%s: %" PRIu64 " ran, %" PRIu64 " stood, %" PRIu64 " cleared; ",
-           when, totals[0], totals[1], totals[2]);
+    printf("%s: %" PRIu64 " ran, %" PRIu64 " stood, %" PRIu64 " cleared, %" PRIu64 " faulted; ",
+           when, totals[0], totals[1], totals[2], totals[3]);
     printf("power left %" PRId64 ", alarm %" PRId64 "\n",
            tolbezun_current_value(TABLES, POWER_LEFT),
            tolbezun_current_value(TABLES, POWER_ALARM));

@@ -163,11 +163,12 @@ uint8_t tolbezun_take_in_package(
 /*
  * Gives a turn to the change of the lowest timestamp that is New or Invalid.
  *
- * timestamp       1 entry, which gets the timestamp of the change whose turn it was, unless the answer
- *                 is idle or a refusal
+ * values          2 entries: the first gets the timestamp of the change whose turn it was, unless the
+ *                 answer is idle or a refusal; the second gets the place of the instruction that broke
+ *                 off, counted from 0, if the answer is faulted; else they keep their contents
  *
  * Alters status, read_count, write_count, read_settings, seen_values, write_settings, written_values,
- * view and timestamp. Answers 0 idle, 1 ran, 2 stood, 3 cleared, or 16 + refusal 1 or 2.
+ * view and values. Answers 0 idle, 1 ran, 2 stood, 3 cleared, 4 faulted, or 16 + refusal 1 or 2.
  */
 uint8_t tolbezun_turn(
     size_t n,
@@ -185,13 +186,13 @@ uint8_t tolbezun_turn(
     uint16_t *write_settings, size_t write_settings_len,
     int32_t *written_values, size_t written_values_len,
     int32_t *view, size_t view_len,
-    uint64_t *timestamp, size_t timestamp_len);
+    uint64_t *values, size_t values_len);
 
 /*
  * Makes turns until one is idle.
  *
- * totals          3 entries, which get how many turns ran, stood and were cleared, unless the answer
- *                 is a refusal
+ * totals          4 entries, which get how many turns ran, stood, were cleared and faulted, unless the
+ *                 answer is a refusal
  *
  * Alters what a turn alters, and totals. Answers 0 done or refusal 1 or 2.
  */

@@ -1,5 +1,5 @@
 -- Turn and drain with their lent slice: what the code stores in it, that a turn's number fits a byte, and a law for each return.
-use mathlib.Core.Path.{_≡_, refl, sym, subst}
+use mathlib.Core.Path.{_≡_, refl, sym, ap, subst}
 use mathlib.Core.Bool.{Bool, true, false, not}
 use mathlib.Core.List.{List, [], _∷_}
 use Prim.Native.Nat.{ℕ, _<_, _≤_}
@@ -10,11 +10,12 @@ use Rattle.model.specs.declared.Drained.{Drained}
 use Rattle.model.specs.declared.Turned.{Turned}
 use Rattle.model.specs.declared.Turned.the-variants as turn-answer
 use Rattle.model.specs.Cabinet.{Cabinet}
-use Rattle.model.specs.Figure.{ran, stood, cleared, Step, idle, turned}
+use Rattle.model.specs.Figure.{Step, idle, turned}
 use Rattle.model.specs.Form.{lengthsFit, inForm}
 use Rattle.model.specs.Refusals.{test, firstOf}
 use Rattle.model.specs.Tables.{Tables, decode}
 use Rattle.model.specs.Calls.{Given, refused, turnedGiven, drainedGiven, numberGiven, Reply, reply, unless, stepReply, roundOf, turn, drain}
+use Rattle.model.proofs.Answers.{by-event}
 use Rattle.answer_numbers.proofs.Numbers.{same-answer, of-call}
 use Rattle.answer_numbers.specs.Numbers.{turnedNumber, answering, Numbered, numbered, givenNumbers, sliceNumbers, turnNumbers, drainNumbers}
 
@@ -24,19 +25,21 @@ pub one-stored : (slice : List ℕ) → 1 ≤ length slice → (a : ℕ) → set
 one-stored [] h a = absurd (omega arith)
 one-stored (x ∷ slice) h a = refl
 
-pub three-stored : (slice : List ℕ) → 3 ≤ length slice → (a b c : ℕ) → set (set (set slice 0 a) 1 b) 2 c ≡ a ∷ b ∷ c ∷ drop 3 slice
-three-stored [] h a b c = absurd (omega arith)
-three-stored (x ∷ []) h a b c = absurd (omega arith)
-three-stored (x ∷ y ∷ []) h a b c = absurd (omega arith)
-three-stored (x ∷ y ∷ z ∷ slice) h a b c = refl
+pub two-stored : (slice : List ℕ) → 2 ≤ length slice → (a b : ℕ) → set (set slice 0 a) 1 b ≡ a ∷ b ∷ drop 2 slice
+two-stored [] h a b = absurd (omega arith)
+two-stored (x ∷ slice) h a b = ap (a ∷_) (one-stored slice (omega arith) b)
+
+pub four-stored : (slice : List ℕ) → 4 ≤ length slice → (a b c d : ℕ) → set (set (set (set slice 0 a) 1 b) 2 c) 3 d ≡ a ∷ b ∷ c ∷ d ∷ drop 4 slice
+four-stored [] h a b c d = absurd (omega arith)
+four-stored (x ∷ []) h a b c d = absurd (omega arith)
+four-stored (x ∷ y ∷ slice) h a b c d = ap (λ (rest : List ℕ). a ∷ b ∷ rest) (two-stored slice (omega arith) c d)
 
 -- ---- a turn's number fits a byte
 
 step-fits : (n : ℕ) (T : Tables) (c : Cabinet) (s : Step) → turnedNumber (turnedGiven (stepReply n T c s .answer)) < 256
 step-fits n T c idle = omega arith
-step-fits n T c (turned h view (ran t l)) = omega arith
-step-fits n T c (turned h view (stood t)) = omega arith
-step-fits n T c (turned h view (cleared t)) = omega arith
+step-fits n T c (turned h view e) =
+    by-event (λ (a : Turned). turnedNumber (turnedGiven a) < 256) (λ t. omega arith) (λ t. omega arith) (λ t. omega arith) (λ t place. omega arith) e
 
 -- its refusals are 1 and 2
 refused-fits : (a b : Bool) (T : Tables) (done : Reply Turned) → turnedNumber (turnedGiven (done .answer)) < 256 → turnedNumber (turnedGiven (unless (firstOf (test 1 a ∷ test 2 b ∷ [])) turn-answer.Refused T done .answer)) < 256
@@ -63,18 +66,18 @@ module _ {A : Type 0} (gives : A → Given) (number : Given → ℕ) (stated : �
   filled e h q = rw (eq-eqb (length slice) stated e) (of-call (answering (λ a. givenNumbers number slice (gives a))) (same-answer h) q)
 
 module _ (n : ℕ) (T : Tables) (slice : List ℕ) where
-  pub turn-length : (length slice ≡ 1 → ⊥) → reply (numbered 17 slice) T ≡ turnNumbers n T slice
+  pub turn-length : (length slice ≡ 2 → ⊥) → reply (numbered 17 slice) T ≡ turnNumbers n T slice
   unfolding turnNumbers
-  turn-length = other-length turnedGiven turnedNumber 1 slice T (turn n T)
+  turn-length = other-length turnedGiven turnedNumber 2 slice T (turn n T)
 
-  pub turn-done : length slice ≡ 1 → {a : Turned} {U : Tables} {after : Numbered ℕ} → after ≡ givenNumbers turnedNumber slice (turnedGiven a) → reply a U ≡ turn n T → reply after U ≡ turnNumbers n T slice
+  pub turn-done : length slice ≡ 2 → {a : Turned} {U : Tables} {after : Numbered ℕ} → after ≡ givenNumbers turnedNumber slice (turnedGiven a) → reply a U ≡ turn n T → reply after U ≡ turnNumbers n T slice
   unfolding turnNumbers
-  turn-done = filled turnedGiven turnedNumber 1 slice T (turn n T)
+  turn-done = filled turnedGiven turnedNumber 2 slice T (turn n T)
 
-  pub drain-length : (length slice ≡ 3 → ⊥) → reply (numbered 1 slice) T ≡ drainNumbers n T slice
+  pub drain-length : (length slice ≡ 4 → ⊥) → reply (numbered 1 slice) T ≡ drainNumbers n T slice
   unfolding drainNumbers
-  drain-length = other-length drainedGiven numberGiven 3 slice T (drain n T)
+  drain-length = other-length drainedGiven numberGiven 4 slice T (drain n T)
 
-  pub drain-done : length slice ≡ 3 → {a : Drained} {U : Tables} {after : Numbered ℕ} → after ≡ givenNumbers numberGiven slice (drainedGiven a) → reply a U ≡ drain n T → reply after U ≡ drainNumbers n T slice
+  pub drain-done : length slice ≡ 4 → {a : Drained} {U : Tables} {after : Numbered ℕ} → after ≡ givenNumbers numberGiven slice (drainedGiven a) → reply a U ≡ drain n T → reply after U ≡ drainNumbers n T slice
   unfolding drainNumbers
-  drain-done = filled drainedGiven numberGiven 3 slice T (drain n T)
+  drain-done = filled drainedGiven numberGiven 4 slice T (drain n T)

@@ -18,7 +18,7 @@ abbrev pub standingNumber : Given → ℕ
 standingNumber (refused r) = 65536 + r
 standingNumber (given k values) = natAbs (getD values 0 (pos 0)) + natAbs (getD values 1 (pos 0)) * 256
 
--- of a turn: 0 idle, 1 ran, 2 stood, 3 cleared, or 16 + the refusal
+-- of a turn: 0 idle, 1 ran, 2 stood, 3 cleared, 4 faulted, or 16 + the refusal
 abbrev pub turnedNumber : Given → ℕ
 turnedNumber (refused r) = 16 + r
 turnedNumber (given k values) = k
@@ -62,10 +62,10 @@ sliceNumbers gives number stated slice T called =
     (answering (λ a. givenNumbers number slice (gives a)) called)
     (reply (givenNumbers number slice (refused 1)) T)
 
--- one entry: the timestamp that the answer names; idle names none
+-- two entries: the timestamp that the answer names and, where it is faulted, the place; idle names none
 unfoldable pub turnNumbers : ℕ → Tables → List ℕ → Reply (Numbered ℕ)
-turnNumbers n T slice = sliceNumbers turnedGiven turnedNumber 1 slice T (turn n T)
+turnNumbers n T slice = sliceNumbers turnedGiven turnedNumber 2 slice T (turn n T)
 
--- three entries: how many turns ran, stood and were cleared
+-- four entries: how many turns ran, stood, were cleared and faulted
 unfoldable pub drainNumbers : ℕ → Tables → List ℕ → Reply (Numbered ℕ)
-drainNumbers n T slice = sliceNumbers drainedGiven numberGiven 3 slice T (drain n T)
+drainNumbers n T slice = sliceNumbers drainedGiven numberGiven 4 slice T (drain n T)

@@ -41,32 +41,37 @@ pub fn standing_number(standing: Standing) -> u32
     }
 }
 
-// 0 idle, 1 ran, 2 stood, 3 cleared, or 16 + the refusal; the slice gets the timestamp of the change whose turn it was.
-pub fn put_timestamp(answer: Turned, timestamp: &mut [u64]) -> u8
-    requires { ⌜ (length (now timestamp) ≡ 1) × (turnedNumber (turnedGiven answer) < 256) ⌝ }
-    ensures { λ r. ⌜ numbered r (now (timestamp .exit)) ≡ givenNumbers turnedNumber (now (timestamp .entry)) (turnedGiven answer) ⌝ }
+// 0 idle, 1 ran, 2 stood, 3 cleared, 4 faulted, or 16 + the refusal; the slice gets the timestamp of the change whose turn it was, and the place where it faulted.
+pub fn put_turned(answer: Turned, values: &mut [u64]) -> u8
+    requires { ⌜ (length (now values) ≡ 2) × (turnedNumber (turnedGiven answer) < 256) ⌝ }
+    ensures { λ r. ⌜ numbered r (now (values .exit)) ≡ givenNumbers turnedNumber (now (values .entry)) (turnedGiven answer) ⌝ }
 {
     match answer {
         Turned::Idle => 0,
         Turned::Ran(t) => {
-            timestamp[0] = t;
+            values[0] = t;
             1
         }
         Turned::Stood(t) => {
-            timestamp[0] = t;
+            values[0] = t;
             2
         }
         Turned::Cleared(t) => {
-            timestamp[0] = t;
+            values[0] = t;
             3
+        }
+        Turned::Faulted(t, place) => {
+            values[0] = t;
+            values[1] = place as u64;
+            4
         }
         Turned::Refused(refusal) => 16 + refusal,
     }
 }
 
-// 0 done, else the refusal; the slice gets how many turns ran, stood and were cleared.
+// 0 done, else the refusal; the slice gets how many turns ran, stood, were cleared and faulted.
 pub fn put_totals(answer: Drained, totals: &mut [u64]) -> u8
-    requires { ⌜ length (now totals) ≡ 3 ⌝ }
+    requires { ⌜ length (now totals) ≡ 4 ⌝ }
     ensures { λ r. ⌜ numbered r (now (totals .exit)) ≡ givenNumbers numberGiven (now (totals .entry)) (drainedGiven answer) ⌝ }
 {
     match answer {
@@ -74,6 +79,7 @@ pub fn put_totals(answer: Drained, totals: &mut [u64]) -> u8
             totals[0] = counts.ran as u64;
             totals[1] = counts.stood as u64;
             totals[2] = counts.cleared as u64;
+            totals[3] = counts.faulted as u64;
             0
         }
         Drained::Refused(refusal) => refusal,

@@ -75,7 +75,7 @@ pub fn turn(
     )
 }
 
-// Turns until idle, and how many ran, stood and were cleared.
+// Turns until idle, and how many ran, stood, were cleared and faulted.
 pub fn drain(
     n: usize,
     held: &[u16],

@@ -7,14 +7,15 @@ use Prim.Native.Nat.{ℕ, suc, _+_, _≤_}
 use native.Mathlib.Omega.{arith}
 use lib.IntN.{ℤ}
 use lib.ListN.{length}
+use Rattle.machine.specs.Run.{Ending, completed, faulted}
 use Rattle.model.specs.declared.Totals.{Totals}
 use Rattle.model.specs.declared.Turned.{Turned}
 use Rattle.model.specs.History.{start, History}
 use Rattle.model.specs.Figure.{Event, ran, stood, cleared, Step, idle, turned}
-use Rattle.model.specs.Drain.{Drain, drainMore, drainHistory, total, totals}
+use Rattle.model.specs.Drain.{Drain, drainMore, drainHistory, totalRun, total, totals}
 use Rattle.model.specs.Cabinet.{Cabinet, historyOf, withHistory}
 use Rattle.model.specs.Tables.{Tables, encode, decode}
-use Rattle.model.specs.Calls.{Reply, reply, eventAnswer, stepReply, roundOf, drainOf}
+use Rattle.model.specs.Calls.{Reply, reply, runAnswer, eventAnswer, stepReply, roundOf, drainOf}
 use Rattle.model.specs.Sound.{Sound}
 use Rattle.model.proofs.Cabinet.{withHistory-history, same-history, history-again}
 use Rattle.model.proofs.Encode.{lengths-encode}
@@ -32,37 +33,50 @@ use Rattle.drains.specs.Drained.{countedIn, drained, Passed}
 
 -- ---- totals
 
+abbrev four : ℕ → ℕ → ℕ → ℕ → Totals
+four r s c f = record { ran = r; stood = s; cleared = c; faulted = f }
+
 -- of two lists of turns
 abbrev sums : Totals → Totals → Totals
-sums m n = record { ran = m .ran + n .ran; stood = m .stood + n .stood; cleared = m .cleared + n .cleared }
-
-abbrev three : ℕ → ℕ → ℕ → Totals
-three r s c = record { ran = r; stood = s; cleared = c }
+sums m n = four (m .ran + n .ran) (m .stood + n .stood) (m .cleared + n .cleared) (m .faulted + n .faulted)
 
 sums-none : (n : Totals) → sums n (totals []) ≡ n
 sums-none n =
     let r : n .ran + 0 ≡ n .ran = omega arith in
     let s : n .stood + 0 ≡ n .stood = omega arith in
     let c : n .cleared + 0 ≡ n .cleared = omega arith in
-    λ j. three (r j) (s j) (c j)
+    let f : n .faulted + 0 ≡ n .faulted = omega arith in
+    λ j. four (r j) (s j) (c j) (f j)
 
-none-sums : (n : Totals) → sums (three 0 0 0) n ≡ n
+none-sums : (n : Totals) → sums (four 0 0 0 0) n ≡ n
 none-sums n =
     let r : 0 + n .ran ≡ n .ran = omega arith in
     let s : 0 + n .stood ≡ n .stood = omega arith in
     let c : 0 + n .cleared ≡ n .cleared = omega arith in
-    λ j. three (r j) (s j) (c j)
+    let f : 0 + n .faulted ≡ n .faulted = omega arith in
+    λ j. four (r j) (s j) (c j) (f j)
 
 -- a turn counted now or with the rest
+sums-run : (t : ℕ) (e : Ending) (m n : Totals) → sums (countedIn (runAnswer t e) m) n ≡ sums m (totalRun e n)
+sums-run t completed m n = let e : m .ran + 1 + n .ran ≡ m .ran + suc (n .ran) = omega arith in λ j. four (e j) (m .stood + n .stood) (m .cleared + n .cleared) (m .faulted + n .faulted)
+sums-run t (faulted fault place) m n = let e : m .faulted + 1 + n .faulted ≡ m .faulted + suc (n .faulted) = omega arith in λ j. four (m .ran + n .ran) (m .stood + n .stood) (m .cleared + n .cleared) (e j)
+
 sums-next : (e : Event) (m n : Totals) → sums (countedIn (eventAnswer e) m) n ≡ sums m (total e n)
-sums-next (ran t l) m n = let e : m .ran + 1 + n .ran ≡ m .ran + suc (n .ran) = omega arith in λ j. three (e j) (m .stood + n .stood) (m .cleared + n .cleared)
-sums-next (stood t) m n = let e : m .stood + 1 + n .stood ≡ m .stood + suc (n .stood) = omega arith in λ j. three (m .ran + n .ran) (e j) (m .cleared + n .cleared)
-sums-next (cleared t) m n = let e : m .cleared + 1 + n .cleared ≡ m .cleared + suc (n .cleared) = omega arith in λ j. three (m .ran + n .ran) (m .stood + n .stood) (e j)
+sums-next (ran t o) m n = sums-run t (o .ending) m n
+sums-next (stood t) m n = let e : m .stood + 1 + n .stood ≡ m .stood + suc (n .stood) = omega arith in λ j. four (m .ran + n .ran) (e j) (m .cleared + n .cleared) (m .faulted + n .faulted)
+sums-next (cleared t) m n = let e : m .cleared + 1 + n .cleared ≡ m .cleared + suc (n .cleared) = omega arith in λ j. four (m .ran + n .ran) (m .stood + n .stood) (e j) (m .faulted + n .faulted)
 
 -- each turn is counted once
-total-within : (events : List Event) → totals events .ran + totals events .stood + totals events .cleared ≤ length events
+abbrev turnsIn : Totals → ℕ
+turnsIn n = n .ran + n .stood + n .cleared + n .faulted
+
+run-once : (e : Ending) (n : Totals) → turnsIn (totalRun e n) ≡ suc (turnsIn n)
+run-once completed n = omega arith
+run-once (faulted fault place) n = omega arith
+
+total-within : (events : List Event) → turnsIn (totals events) ≤ length events
 total-within [] = omega arith
-total-within (ran t l ∷ events) = let rest = total-within events in omega arith
+total-within (ran t o ∷ events) = omega (arith, run-once (o .ending) (totals events), total-within events)
 total-within (stood t ∷ events) = let rest = total-within events in omega arith
 total-within (cleared t ∷ events) = let rest = total-within events in omega arith
 
@@ -82,14 +96,14 @@ module _ (T : Tables) (g : Formed (length (T .order)) T) where
   sound = facts g .sound
 
   -- no turn yet
-  pub drain-begins : Draining T T (three 0 0 0)
+  pub drain-begins : Draining T T (four 0 0 0 0)
   drain-begins = record { formed = g; rest = refl; counts = none-sums (drained T .answer) }
 
   -- an idle turn is the last
-  idle-drained : roundOf (decode T) ≡ idle → drained T ≡ reply (three 0 0 0) T
+  idle-drained : roundOf (decode T) ≡ idle → drained T ≡ reply (four 0 0 0 0) T
   idle-drained q =
       ap (λ (d : Drain). reply (totals (d .events)) (encode capacity (withHistory (decode T) (d .history) (d .view)))) (drain-idle start (historyOf (decode T)) (decode T .view) q)
-      ∙ ap (reply (three 0 0 0)) (ap (encode capacity) (same-history (decode T)) ∙ facts g .laid)
+      ∙ ap (reply (four 0 0 0 0)) (ap (encode capacity) (same-history (decode T)) ∙ facts g .laid)
 
   -- the drain after a turn is the rest of the drain before it
   module _ {h : History} {view : List ℤ} {e : Event} (q : roundOf (decode T) ≡ turned h view e) where
@@ -159,17 +173,19 @@ module _ (T : Tables) (g : Formed (length (T .order)) T) where
         ap₂ reply (sym (sums-none n) ∙ ap (λ (r : Reply Totals). sums n (r .answer)) (sym done) ∙ k .counts) (ap (λ (r : Reply Totals). r .tables) (sym done) ∙ k .rest)
 
 -- the totals so far are within the capacity
-pub totals-small : {T₀ T : Tables} {n : Totals} → Formed (length (T₀ .order)) T₀ → Draining T₀ T n → (n .ran ≤ 4096) × (n .stood ≤ 4096) × (n .cleared ≤ 4096)
+pub totals-small : {T₀ T : Tables} {n : Totals} → Formed (length (T₀ .order)) T₀ → Draining T₀ T n → (n .ran ≤ 4096) × (n .stood ≤ 4096) × (n .cleared ≤ 4096) × (n .faulted ≤ 4096)
 totals-small {T₀} {T} {n} g k =
     let c = decode T₀ in
     let s = sound T₀ g in
     let ran = ap (λ (t : Totals). t .ran) (k .counts) in
     let stood = ap (λ (t : Totals). t .stood) (k .counts) in
     let cleared = ap (λ (t : Totals). t .cleared) (k .counts) in
+    let faulted = ap (λ (t : Totals). t .faulted) (k .counts) in
     let all = total-within (drainOf c .events) in
     let turns = drain-within start (historyOf c) (c .view) in
     let held = changesAt-length (c .changes) (c .order) in (
       omega (arith, ran, all, turns, held, s .placed .counted, s .small, s .capacity),
       omega (arith, stood, all, turns, held, s .placed .counted, s .small, s .capacity),
       omega (arith, cleared, all, turns, held, s .placed .counted, s .small, s .capacity),
+      omega (arith, faulted, all, turns, held, s .placed .counted, s .small, s .capacity),
     )

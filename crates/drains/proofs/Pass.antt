@@ -34,7 +34,7 @@ pub record Passing (T₀ T : Tables) (n : Totals) (k : ℕ) (known : List ℕ) (
   pub going : Going k T known before after readers writers settled
 
 -- no change waits
-pub pass-none : {T : Tables} → Formed (length (T .order)) T → waitingIn T ≡ none → reply (record { ran = 0; stood = 0; cleared = 0 }) T ≡ drained T
+pub pass-none : {T : Tables} → Formed (length (T .order)) T → waitingIn T ≡ none → reply (record { ran = 0; stood = 0; cleared = 0; faulted = 0 }) T ≡ drained T
 pass-none {T} g w = drain-ends-here T g (drain-begins T g) w
 
 -- the first change that waits
@@ -65,7 +65,7 @@ module _ {T : Tables} {first : ℕ} (g : Formed (length (T .order)) T) (w : wait
       after ≡ allSettings start →
       CarriedBelow first (T .order) (T .writes) (T .targets) (T .written) before after before' after' →
       LastUses first (heldCount T) (columnsOf T) (T .status) readers writers →
-      Passing T T (record { ran = 0; stood = 0; cleared = 0 }) first (replicate 1024 1) before' after' readers writers (replicate 1024 0)
+      Passing T T (record { ran = 0; stood = 0; cleared = 0; faulted = 0 }) first (replicate 1024 1) before' after' readers writers (replicate 1024 0)
   pass-begins b a c u =
       record {
         within = omega (arith, within);

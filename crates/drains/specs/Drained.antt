@@ -15,9 +15,10 @@ use Rattle.turns.specs.Turns.{turned}
 -- the totals with one more turn
 abbrev pub countedIn : Turned → Totals → Totals
 countedIn turn-answer.Idle n = n
-countedIn (turn-answer.Ran t) n = record { ran = n .ran + 1; stood = n .stood; cleared = n .cleared }
-countedIn (turn-answer.Stood t) n = record { ran = n .ran; stood = n .stood + 1; cleared = n .cleared }
-countedIn (turn-answer.Cleared t) n = record { ran = n .ran; stood = n .stood; cleared = n .cleared + 1 }
+countedIn (turn-answer.Ran t) n = record { ran = n .ran + 1; stood = n .stood; cleared = n .cleared; faulted = n .faulted }
+countedIn (turn-answer.Stood t) n = record { ran = n .ran; stood = n .stood + 1; cleared = n .cleared; faulted = n .faulted }
+countedIn (turn-answer.Cleared t) n = record { ran = n .ran; stood = n .stood; cleared = n .cleared + 1; faulted = n .faulted }
+countedIn (turn-answer.Faulted t place) n = record { ran = n .ran; stood = n .stood; cleared = n .cleared; faulted = n .faulted + 1 }
 countedIn (turn-answer.Refused r) n = n
 
 -- the totals and the tables after a drain of tables in form; their capacity is the length of the order list

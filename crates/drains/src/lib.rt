@@ -95,34 +95,44 @@ fn pass_at(
 
 // The totals with one more turn.
 fn counted(totals: Totals, answer: Turned) -> Totals
-    requires { ⌜ (totals .ran ≤ 4096) × (totals .stood ≤ 4096) × (totals .cleared ≤ 4096) ⌝ }
+    requires { ⌜ (totals .ran ≤ 4096) × (totals .stood ≤ 4096) × (totals .cleared ≤ 4096) × (totals .faulted ≤ 4096) ⌝ }
     ensures { λ r. ⌜ r ≡ countedIn answer totals ⌝ }
 {
     let ran = totals.ran;
     let stood = totals.stood;
     let cleared = totals.cleared;
+    let faulted = totals.faulted;
     match answer {
         Turned::Idle => totals,
         Turned::Ran(_) => Totals {
             ran: ran + 1,
             stood: stood,
             cleared: cleared,
+            faulted: faulted,
         },
         Turned::Stood(_) => Totals {
             ran: ran,
             stood: stood + 1,
             cleared: cleared,
+            faulted: faulted,
         },
         Turned::Cleared(_) => Totals {
             ran: ran,
             stood: stood,
             cleared: cleared + 1,
+            faulted: faulted,
+        },
+        Turned::Faulted(_, _) => Totals {
+            ran: ran,
+            stood: stood,
+            cleared: cleared,
+            faulted: faulted + 1,
         },
         Turned::Refused(_) => totals,
     }
 }
 
-// The turns of a drain from its first on, which is that of the change at a position, and how many ran, stood and were cleared. All values are known from the start, and how far
+// The turns of a drain from its first on, which is that of the change at a position, and how many ran, stood, were cleared and faulted. All values are known from the start, and how far
 // each setting matters is noted once.
 fn turn_from(
     first: usize,
@@ -192,6 +202,7 @@ fn turn_from(
         ran: 0,
         stood: 0,
         cleared: 0,
+        faulted: 0,
     };
     let mut k = first;
     while k < count {
@@ -224,7 +235,7 @@ fn turn_from(
     totals
 }
 
-// A drain, and how many of its turns ran, stood and were cleared; none, where no change waits.
+// A drain, and how many of its turns ran, stood, were cleared and faulted; none, where no change waits.
 pub fn turn_all(
     held: &[u16],
     timestamps: &[u64],
@@ -278,6 +289,7 @@ pub fn turn_all(
             ran: 0,
             stood: 0,
             cleared: 0,
+            faulted: 0,
         },
     }
 }

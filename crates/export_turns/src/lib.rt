@@ -1,6 +1,6 @@
 // Turn and drain for programs in other languages, as a static library. Each answer is one number, and its values stand in a lent slice.
-use answer_numbers::put_timestamp;
 use answer_numbers::put_totals;
+use answer_numbers::put_turned;
 use checker::drain;
 use checker::turn;
 ghost use mathlib.Core.Path.{_≡_};
@@ -8,7 +8,7 @@ ghost use Rattle.model.specs.Tables.{tables, withTurn};
 ghost use Rattle.model.specs.Calls.{reply};
 ghost use Rattle.answer_numbers.specs.Numbers.{numbered, turnNumbers, drainNumbers};
 
-// One turn: the number of its answer. `timestamp` has one entry, which gets the timestamp of the change whose turn it was.
+// One turn: the number of its answer. `values` has two entries, which get the timestamp of the change whose turn it was and the place where it faulted.
 #[no_mangle]
 pub extern "C" fn tolbezun_turn(
     n: usize,
@@ -26,20 +26,20 @@ pub extern "C" fn tolbezun_turn(
     targets: &mut [u16],
     written: &mut [i32],
     view: &mut [i32],
-    timestamp: &mut [u64],
+    values: &mut [u64],
 ) -> u8
     ensures { λ r. ⌜
         (let T =
         tables (now (held .entry)) (now (timestamps .entry)) (now (order .entry)) (now (status .entry)) (now (withdrawn .entry))
         (now (lengths .entry)) (now (programs .entry)) (now (reads .entry)) (now (writes .entry)) (now (sources .entry))
         (now (seen .entry)) (now (targets .entry)) (now (written .entry)) (now (view .entry)) in
-        reply (numbered r (now (timestamp .exit)))
+        reply (numbered r (now (values .exit)))
         (withTurn T (now (status .exit)) (now (reads .exit)) (now (writes .exit)) (now (sources .exit)) (now (seen .exit))
         (now (targets .exit)) (now (written .exit)) (now (view .exit)))
-        ≡ turnNumbers n T (now (timestamp .entry)))
+        ≡ turnNumbers n T (now (values .entry)))
         ⌝ }
 {
-    if timestamp.len() != 1 {
+    if values.len() != 2 {
         return 17;
     }
     let answer = turn(
@@ -59,10 +59,10 @@ pub extern "C" fn tolbezun_turn(
         written,
         view,
     );
-    put_timestamp(answer, timestamp)
+    put_turned(answer, values)
 }
 
-// A drain: the number of its answer. `totals` has three entries, which get how many turns ran, stood and were cleared.
+// A drain: the number of its answer. `totals` has four entries, which get how many turns ran, stood, were cleared and faulted.
 #[no_mangle]
 pub extern "C" fn tolbezun_drain(
     n: usize,
@@ -93,7 +93,7 @@ pub extern "C" fn tolbezun_drain(
         ≡ drainNumbers n T (now (totals .entry)))
         ⌝ }
 {
-    if totals.len() != 3 {
+    if totals.len() != 4 {
         return 1;
     }
     let answer = drain(

@@ -6,7 +6,7 @@ use text::put_signed;
 ghost use Prim.Native.Nat.{_+_, _≤_};
 ghost use lib.ListN.{length};
 ghost use Rattle.text.specs.Pieces.{Put};
-ghost use Rattle.lines.specs.Lines.{packageLine, outcome, entryLine, turnOf, turnLine, settingLine};
+ghost use Rattle.lines.specs.Lines.{packageLine, outcome, entryLine, turnOf, faultLine, turnLine, settingLine};
 
 // The line of a package that is refused.
 pub fn put_refusal(refusal: u8, text: &mut [u8], at: usize) -> usize
@@ -63,6 +63,19 @@ fn put_turn_of(timestamp: u64, done: &[u8], text: &mut [u8], at: usize) -> usize
     put(b"\n", text, end)
 }
 
+// The line of a turn that faulted, by its timestamp and the place.
+fn put_fault(timestamp: u64, place: usize, text: &mut [u8], at: usize) -> usize
+    requires { ⌜ at + 64 ≤ length (now text) ⌝ }
+    ensures { λ r. ⌜ Put at (faultLine timestamp place) (now (text .entry)) (now (text .exit)) r ⌝ }
+    ensures { λ r. ⌜ r ≤ at + 64 ⌝ }
+{
+    let mut end = put(b"turn ", text, at);
+    end = put_number(timestamp, text, end);
+    end = put(b" faulted ", text, end);
+    end = put_number(place as u64, text, end);
+    put(b"\n", text, end)
+}
+
 // The line of a turn. An idle one has none.
 pub fn put_turn(answer: Turned, text: &mut [u8], at: usize) -> usize
     requires { ⌜ at + 64 ≤ length (now text) ⌝ }
@@ -74,6 +87,7 @@ pub fn put_turn(answer: Turned, text: &mut [u8], at: usize) -> usize
         Turned::Ran(timestamp) => put_turn_of(timestamp, b" ran", text, at),
         Turned::Stood(timestamp) => put_turn_of(timestamp, b" stood", text, at),
         Turned::Cleared(timestamp) => put_turn_of(timestamp, b" cleared", text, at),
+        Turned::Faulted(timestamp, place) => put_fault(timestamp, place, text, at),
         Turned::Refused(_) => at,
     }
 }

@@ -8,6 +8,7 @@ use native.Mathlib.Omega.{arith}
 use lib.IntN.{ℤ}
 use lib.ListN.{length}
 use Rattle.machine.specs.Settings.{Environment, after}
+use Rattle.machine.specs.Run.{run}
 use Rattle.model.specs.History.{New, Valid, Invalid, Lists, empty, runLists, Change, change, timestamp, History, allHold}
 use Rattle.model.specs.Figure.{Event, ran, stood, cleared, eventTimestamp, Step, idle, turned, lowestWaiting, roundAt, round}
 use Rattle.model.specs.Drain.{Drain, drainNone, drainMore, drainStep, drainFor, drainHistory, RisingEvents}
@@ -67,14 +68,14 @@ walk-ordered env view b (change t p Valid w l ∷ h) r =
 walk-ordered env view b (change t p New true l ∷ h) r =
     ordered-first (change t p New true l) h _ p true empty (cleared t) refl refl refl (mark-rising _ t h (r .2))
 walk-ordered env view b (change t p New false l ∷ h) r =
-    ordered-first (change t p New false l) h _ p false (runLists env p) (ran t (runLists env p)) refl refl refl (mark-rising _ t h (r .2))
+    ordered-first (change t p New false l) h _ p false (runLists env p) (ran t (run env p)) refl refl refl (mark-rising _ t h (r .2))
 walk-ordered env view b (change t p Invalid true l ∷ h) r =
     ordered-first (change t p Invalid true l) h _ p true empty (cleared t) refl refl refl (mark-rising _ t h (r .2))
 walk-ordered env view b (change t p Invalid false l ∷ h) r = go (allHold (l .reads) env)
   where
     go : (holds : Bool) → OrderedStep (change t p Invalid false l ∷ h) (retry holds env view t p l h)
     go true = ordered-first (change t p Invalid false l) h h p false l (stood t) refl refl refl (r .2)
-    go false = ordered-first (change t p Invalid false l) h _ p false (runLists env p) (ran t (runLists env p)) refl refl refl (mark-rising _ t h (r .2))
+    go false = ordered-first (change t p Invalid false l) h _ p false (runLists env p) (ran t (run env p)) refl refl refl (mark-rising _ t h (r .2))
 
 -- ---- a drain's end
 

@@ -11,6 +11,7 @@ use lib.IntN.{ℤ}
 use lib.ListN.{length, length-map, length-append}
 use Rattle.machine.specs.Settings.{settingCount, Environment}
 use Rattle.machine.specs.Form.{lengthFits, wellFormed}
+use Rattle.machine.specs.Run.{run}
 use Rattle.machine.proofs.Cases.{by-test, impossible}
 use Rattle.model.specs.History.{infinity, start, New, Valid, Invalid, Lists, empty, runLists, Change, change, timestamp, History, asOf, allHold}
 use Rattle.model.specs.Figure.{Event, ran, cleared, Step, idle, turned, lowestWaiting, markUpdate, markFuture, changeset, replace, install, rerun, execute, roundAt, round}
@@ -87,7 +88,7 @@ module _ (h : History) (view : List ℤ) (upto : Environment) where
 
   execute-keeps : (c : Change) → (AllSound h → ChangeSound c) → StepKeeps h view (execute h view upto c)
   execute-keeps (change t p s true old) k = install-keeps t p true old empty (cleared t) (λ a. cleared-sound (k a))
-  execute-keeps (change t p New false old) k = install-keeps t p false old (runLists upto p) (ran t (runLists upto p)) (λ a. ran-sound upto (k a))
+  execute-keeps (change t p New false old) k = install-keeps t p false old (runLists upto p) (ran t (run upto p)) (λ a. ran-sound upto (k a))
   execute-keeps (change t p Valid false old) k = tt
   execute-keeps (change t p Invalid false old) k = go (allHold (old .reads) upto)
     where
@@ -98,7 +99,7 @@ module _ (h : History) (view : List ℤ) (upto : Environment) where
             sound = λ a. map-sound _ (λ u s. replace-sound t (change t p Valid false old) u (stood-sound (k a)) s) h a;
             viewed = λ n. n;
           }
-      go false = install-keeps t p false old (runLists upto p) (ran t (runLists upto p)) (λ a. ran-sound upto (k a))
+      go false = install-keeps t p false old (runLists upto p) (ran t (run upto p)) (λ a. ran-sound upto (k a))
 
 -- the change whose turn it is, if there is one, is sound
 abbrev SoundIfAny : Option Change → Type 0

@@ -1,6 +1,7 @@
 pub mod Tabulate
 pub mod Values
 pub mod Start
+pub mod Answers
 pub mod Programs
 pub mod Sound
 pub mod Order

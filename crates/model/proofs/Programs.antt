@@ -5,7 +5,7 @@ use mathlib.Core.List.{List, [], _∷_}
 use Prim.Native.Nat.{ℕ}
 use Rattle.machine.specs.Settings.{Environment, Entry, Holds, Bounded}
 use Rattle.machine.specs.Form.{lengthFits}
-use Rattle.machine.specs.Run.{Outcome}
+use Rattle.machine.specs.Run.{Outcome, run}
 use Rattle.machine.proofs.Cases.{both}
 use Rattle.machine.proofs.Form.{length-short}
 use Rattle.machine.proofs.Frame.{run-holds, run-same}
@@ -21,10 +21,20 @@ runLists-holds env p = run-holds env p
 abbrev listsOf : Outcome → Lists
 listsOf o = record { reads = o .reads; writes = o .writes }
 
--- a run on an environment that holds each value seen leaves the same lists
+-- a run on an environment that holds each value seen is the same run, its ending included
+pub runLists-run : (env env' : Environment) (p : List ℕ) → Holds env' (runLists env p .reads) → run env' p ≡ run env p
+unfolding runLists
+runLists-run env env' p h = run-same env env' p h
+
+-- it leaves the same lists
 pub runLists-same : (env env' : Environment) (p : List ℕ) → Holds env' (runLists env p .reads) → runLists env' p ≡ runLists env p
 unfolding runLists
-runLists-same env env' p h = ap listsOf (run-same env env' p h)
+runLists-same env env' p h = ap listsOf (runLists-run env env' p h)
+
+-- what a run read stands in its lists
+pub runLists-reads : (env : Environment) (p : List ℕ) → runLists env p .reads ≡ run env p .reads
+unfolding runLists
+runLists-reads env p = refl
 
 -- the lists of a run fit the tables
 pub runLists-bounded : (env : Environment) (p : List ℕ) → lengthFits p ≡ true → Bounded (runLists env p .reads) × Bounded (runLists env p .writes)

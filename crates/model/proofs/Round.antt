@@ -9,6 +9,7 @@ use lib.Dec.{leb, ltb}
 use lib.IntN.{ℤ}
 use borrow.Author.Tests.{lt-ltb, le-ltb, eq-eqb, ne-eqb, le-leb, lt-leb}
 use Rattle.machine.specs.Settings.{Environment, valueIn, _orElse_, lookup, after}
+use Rattle.machine.specs.Run.{run}
 use Rattle.machine.proofs.Cases.{by-test, by-test₂, impossible}
 use Rattle.model.specs.History.{infinity, Status, New, Valid, Invalid, Lists, empty, runLists, Change, change, timestamp, lists, History, afterChange, asOf, allSettings, eqZ, allHold}
 use Rattle.model.specs.Figure.{Event, ran, stood, cleared, Step, turned, lowestWaiting, writes, nextWriter, lastWriterAfter, added, removed, changed, changeset, readsAny, mark, markUpdate, markFuture, updateView, replace, install, rerun, execute, roundAt, round}
@@ -109,7 +110,7 @@ replace-later t new b (c ∷ h) q r = rw (ne-eqb (timestamp c) t (omega arith)) 
 
 rerun-first : (env : Environment) (view : List ℤ) (t : ℕ) (p : List ℕ) (old : Lists) (h : History) → Rising t h → (holds : Bool) → rerun holds (change t p Invalid false old ∷ h) view env t p old ≡ retry holds env view t p old h
 rerun-first env view t p old h r true = rw (eq-eqb t t refl) (ap (λ g. turned (change t p Valid false old ∷ g) view (stood t)) (replace-later t (change t p Valid false old) t h (omega arith) r))
-rerun-first env view t p old h r false = install-first env view t p Invalid false old (runLists env p) h r (ran t (runLists env p))
+rerun-first env view t p old h r false = install-first env view t p Invalid false old (runLists env p) h r (ran t (run env p))
 
 -- ---- a change before the one whose turn it is stays, and alters nothing of the round
 
@@ -141,11 +142,11 @@ module _ (view : List ℤ) (upto : Environment) (c : Change) (h : History) (t : 
 
   rerun-past : (p : List ℕ) (old : Lists) (holds : Bool) → rerun holds (c ∷ h) view upto t p old ≡ pass c (rerun holds h view upto t p old)
   rerun-past p old true = rw (ne-eqb (timestamp c) t (omega arith))
-  rerun-past p old false = install-past p false old (runLists upto p) (ran t (runLists upto p))
+  rerun-past p old false = install-past p false old (runLists upto p) (ran t (run upto p))
 
 execute-past : (view : List ℤ) (upto : Environment) (c : Change) (h : History) (d : Change) → timestamp c < timestamp d → execute (c ∷ h) view upto d ≡ pass c (execute h view upto d)
 execute-past view upto c h (change t p s true old) q = install-past view upto c h t q p true old empty (cleared t)
-execute-past view upto c h (change t p New false old) q = install-past view upto c h t q p false old (runLists upto p) (ran t (runLists upto p))
+execute-past view upto c h (change t p New false old) q = install-past view upto c h t q p false old (runLists upto p) (ran t (run upto p))
 execute-past view upto c h (change t p Invalid false old) q = rerun-past view upto c h t q p old (allHold (old .reads) upto)
 execute-past view upto c h (change t p Valid false old) q = refl
 
@@ -179,7 +180,7 @@ round-walk env (change t p Valid w l ∷ h) view b r =
 round-walk env (change t p New true l ∷ h) view b r =
     round-first env view (change t p New true l) h (r .2) (install-first env view t p New true l empty h (r .2) (cleared t))
 round-walk env (change t p New false l ∷ h) view b r =
-    round-first env view (change t p New false l) h (r .2) (install-first env view t p New false l (runLists env p) h (r .2) (ran t (runLists env p)))
+    round-first env view (change t p New false l) h (r .2) (install-first env view t p New false l (runLists env p) h (r .2) (ran t (run env p)))
 round-walk env (change t p Invalid true l ∷ h) view b r =
     round-first env view (change t p Invalid true l) h (r .2) (install-first env view t p Invalid true l empty h (r .2) (cleared t))
 round-walk env (change t p Invalid false l ∷ h) view b r =

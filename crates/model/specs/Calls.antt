@@ -8,6 +8,7 @@ use lib.IntN.{ℤ, pos}
 use lib.ListN.{length, drop}
 use Rattle.start_values.specs.StartValues.{startTable}
 use Rattle.machine.specs.Settings.{settingCount, valueIn}
+use Rattle.machine.specs.Run.{Ending, completed, faulted}
 use Rattle.model.specs.declared.Answer.{Answer}
 use Rattle.model.specs.declared.Answer.the-variants as answer
 use Rattle.model.specs.declared.Turned.{Turned}
@@ -40,17 +41,18 @@ answerGiven answer.Done = given 0 []
 answerGiven answer.Held = given 255 []
 answerGiven (answer.Refused r) = refused r
 
--- idle, ran, stood and cleared in this order from 0; the last three name the change's timestamp
+-- idle, ran, stood, cleared and faulted in this order from 0; all but idle name the change's timestamp, and faulted the place too (document 02, R-2)
 abbrev pub turnedGiven : Turned → Given
 turnedGiven turn-answer.Idle = given 0 []
 turnedGiven (turn-answer.Ran t) = given 1 (pos t ∷ [])
 turnedGiven (turn-answer.Stood t) = given 2 (pos t ∷ [])
 turnedGiven (turn-answer.Cleared t) = given 3 (pos t ∷ [])
+turnedGiven (turn-answer.Faulted t place) = given 4 (pos t ∷ pos place ∷ [])
 turnedGiven (turn-answer.Refused r) = refused r
 
--- how many ran, stood and were cleared
+-- how many ran, stood, were cleared and faulted
 abbrev pub drainedGiven : Drained → Given
-drainedGiven (drain-answer.Counted n) = given 0 (pos (n .ran) ∷ pos (n .stood) ∷ pos (n .cleared) ∷ [])
+drainedGiven (drain-answer.Counted n) = given 0 (pos (n .ran) ∷ pos (n .stood) ∷ pos (n .cleared) ∷ pos (n .faulted) ∷ [])
 drainedGiven (drain-answer.Refused r) = refused r
 
 -- a value
@@ -173,8 +175,13 @@ takeInPackage n T bytes answers =
 
 -- ---- turn, drain
 
+-- document 02, R-2: "A turn answers faulted with the place instead of ran in that case"; the place is that of the instruction that broke off, from 0
+abbrev pub runAnswer : ℕ → Ending → Turned
+runAnswer t completed = turn-answer.Ran t
+runAnswer t (faulted fault place) = turn-answer.Faulted t place
+
 abbrev pub eventAnswer : Event → Turned
-eventAnswer (ran t l) = turn-answer.Ran t
+eventAnswer (ran t o) = runAnswer t (o .ending)
 eventAnswer (stood t) = turn-answer.Stood t
 eventAnswer (cleared t) = turn-answer.Cleared t
 

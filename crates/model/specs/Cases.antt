@@ -15,7 +15,7 @@ use Rattle.machine.specs.Run.{effect, shiftRight, enter, load, store, perform, 
 use Rattle.machine.specs.Examples.{instruction, constant, reading, writing}
 use Rattle.model.specs.declared.Answer.{Answer}
 use Rattle.model.specs.declared.Turned.{Turned}
-use Rattle.model.specs.declared.Turned.the-variants.{Ran, Stood, Cleared}
+use Rattle.model.specs.declared.Turned.the-variants.{Ran, Stood, Cleared, Faulted}
 use Rattle.model.specs.declared.Drained.{Drained}
 use Rattle.model.specs.declared.Drained.the-variants.{Counted}
 use Rattle.model.specs.declared.Value.{Value}
@@ -83,17 +83,17 @@ record Case : Type 0 where
   answer : Drained
   facts : List Fact
 
--- so many ran, stood and were cleared
-abbrev counted : ℕ → ℕ → ℕ → Drained
-counted n m k = Counted (record { ran = n; stood = m; cleared = k })
+-- so many ran, stood, were cleared and faulted
+abbrev counted : ℕ → ℕ → ℕ → ℕ → Drained
+counted n m k f = Counted (record { ran = n; stood = m; cleared = k; faulted = f })
 
 -- a drain with its turns, all of which ran
 abbrev drainsRunning : List ℕ → Action
-drainsRunning timestamps = drains (map Ran timestamps) (counted (length timestamps) 0 0)
+drainsRunning timestamps = drains (map Ran timestamps) (counted (length timestamps) 0 0 0)
 
 -- nothing held: no turns
 P1 : Case
-P1 = record { script = []; turned = []; answer = counted 0 0 0; facts = [] }
+P1 = record { script = []; turned = []; answer = counted 0 0 0 0; facts = [] }
 
 -- 20 sets 34 to 5, drained; 10 sets 34 to 7: 10 ran; view 5, as of 15 it is 7
 P2 : Case
@@ -101,7 +101,7 @@ P2 =
     record {
       script = takesIn 20 (sets 34 (pos 5)) ∷ drainsRunning (20 ∷ []) ∷ takesIn 10 (sets 34 (pos 7)) ∷ [];
       turned = Ran 10 ∷ [];
-      answer = counted 1 0 0;
+      answer = counted 1 0 0 0;
       facts = current 34 (Is (pos 5)) ∷ asOf 15 34 (Is (pos 7)) ∷ [];
     }
 
@@ -111,7 +111,7 @@ P3 =
     record {
       script = takesIn 20 (copies 34 50) ∷ drainsRunning (20 ∷ []) ∷ takesIn 10 (sets 34 (pos 7)) ∷ [];
       turned = Ran 10 ∷ Ran 20 ∷ [];
-      answer = counted 2 0 0;
+      answer = counted 2 0 0 0;
       facts = current 50 (Is (pos 7)) ∷ [];
     }
 
@@ -121,7 +121,7 @@ P4 =
     record {
       script = takesIn 20 (copies 34 50) ∷ drainsRunning (20 ∷ []) ∷ takesIn 10 (sets 34 (pos 1)) ∷ [];
       turned = Ran 10 ∷ [];
-      answer = counted 1 0 0;
+      answer = counted 1 0 0 0;
       facts = current 50 (Is (pos 1)) ∷ [];
     }
 
@@ -131,7 +131,7 @@ P5 =
     record {
       script = takesIn 20 (sets 34 (pos 5)) ∷ takesIn 30 (copies 34 50) ∷ drainsRunning (20 ∷ 30 ∷ []) ∷ takesIn 10 (sets 34 (pos 7)) ∷ [];
       turned = Ran 10 ∷ [];
-      answer = counted 1 0 0;
+      answer = counted 1 0 0 0;
       facts = current 34 (Is (pos 5)) ∷ current 50 (Is (pos 5)) ∷ [];
     }
 
@@ -141,7 +141,7 @@ P6 =
     record {
       script = takesIn 20 (adds 34 (pos 1)) ∷ drainsRunning (20 ∷ []) ∷ takesIn 10 (sets 34 (pos 7)) ∷ [];
       turned = Ran 10 ∷ Ran 20 ∷ [];
-      answer = counted 2 0 0;
+      answer = counted 2 0 0 0;
       facts = current 34 (Is (pos 8)) ∷ [];
     }
 
@@ -152,7 +152,7 @@ P7 =
       script =
           takesIn 30 (copies 34 50) ∷ drainsRunning (30 ∷ []) ∷ takesIn 10 (sets 34 (pos 7)) ∷ turns (Ran 10) ∷ takesIn 20 (sets 34 (pos 1)) ∷ [];
       turned = Ran 20 ∷ Stood 30 ∷ [];
-      answer = counted 1 1 0;
+      answer = counted 1 1 0 0;
       facts = current 50 (Is (pos 1)) ∷ stands 30 (At 1 0) ∷ [];
     }
 
@@ -162,17 +162,17 @@ P8 =
     record {
       script = takesIn 10 (sets 34 (pos 7) ++ sets 40 (pos 3)) ∷ drainsRunning (10 ∷ []) ∷ withdraws 10 ∷ [];
       turned = Cleared 10 ∷ [];
-      answer = counted 0 0 1;
+      answer = counted 0 0 1 0;
       facts = current 34 (Is (pos 1)) ∷ current 40 (Is (pos 0)) ∷ stands 10 (At 1 1) ∷ [];
     }
 
--- 10 writes 34 twice: it writes nothing; 34 stays where it starts, at 1
+-- 10 writes 34 twice, the second time by its fourth instruction: it faults at place 3 and writes nothing; 34 stays where it starts, at 1
 P9 : Case
 P9 =
     record {
       script = takesIn 10 (sets 34 (pos 7) ++ sets 34 (pos 5)) ∷ [];
-      turned = Ran 10 ∷ [];
-      answer = counted 1 0 0;
+      turned = Faulted 10 3 ∷ [];
+      answer = counted 0 0 0 1;
       facts = current 34 (Is (pos 1)) ∷ asOf 20 34 (Is (pos 1)) ∷ [];
     }
 
@@ -187,7 +187,7 @@ P10 =
           ∷ takesIn 40 (constant 0 (negsuc 0) ∷ instruction 7 1 0 0 (pos 0) ∷ writing 37 1 ∷ [])
           ∷ [];
       turned = Ran 10 ∷ Ran 20 ∷ Ran 30 ∷ Ran 40 ∷ [];
-      answer = counted 4 0 0;
+      answer = counted 4 0 0 0;
       facts =
           current 34 (Is (negsuc 2147483647))
           ∷ current 35 (Is (negsuc 2147483647))
@@ -202,7 +202,7 @@ P11-before =
     record {
       script = takesIn 10 (sets 36 (pos 400)) ∷ takesIn 30 (subtracts 36 (pos 300) ++ alarms 37) ∷ [];
       turned = Ran 10 ∷ Ran 30 ∷ [];
-      answer = counted 2 0 0;
+      answer = counted 2 0 0 0;
       facts = current 36 (Is (pos 100)) ∷ current 37 (Is (pos 0)) ∷ [];
     }
 
@@ -217,7 +217,7 @@ P11-after =
           ∷ takesIn 20 (subtracts 36 (pos 200))
           ∷ [];
       turned = Ran 20 ∷ Ran 30 ∷ [];
-      answer = counted 2 0 0;
+      answer = counted 2 0 0 0;
       facts = current 36 (Is (negsuc 99)) ∷ current 37 (Is (pos 1)) ∷ [];
     }
 
@@ -233,7 +233,7 @@ sample-package =
           takesInPackage (3 ∷ 0 ∷ (listed 20 0 2 ++ listed 10 0 2 ++ listed 15 1 0 ++ bytesOf (copies 34 50 ++ sets 34 (pos 7)))) (0 ∷ 0 ∷ 10 ∷ [])
           ∷ [];
       turned = Ran 10 ∷ Ran 20 ∷ [];
-      answer = counted 2 0 0;
+      answer = counted 2 0 0 0;
       facts = current 34 (Is (pos 7)) ∷ current 50 (Is (pos 7)) ∷ [];
     }
 

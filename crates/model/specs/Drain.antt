@@ -4,6 +4,7 @@ use Prim.Native.Nat.{ℕ, zero, suc, _<_}
 use lib.IntN.{ℤ}
 use lib.ListN.{length}
 use Rattle.machine.specs.Settings.{Environment}
+use Rattle.machine.specs.Run.{Ending, completed, faulted}
 use Rattle.model.specs.declared.Totals.{Totals}
 use Rattle.model.specs.History.{History}
 use Rattle.model.specs.Figure.{Event, ran, stood, cleared, eventTimestamp, Step, idle, turned, round}
@@ -38,12 +39,17 @@ abbrev pub RisingEvents : ℕ → List Event → Type 0
 RisingEvents a [] = Unit {0}
 RisingEvents a (e ∷ events) = (a < eventTimestamp e) × RisingEvents (eventTimestamp e) events
 
--- how many ran, stood and were cleared
+-- a run more; document 02, R-2: "A drain returns faulted as a fourth total, no longer within ran."
+abbrev pub totalRun : Ending → Totals → Totals
+totalRun completed n = record { ran = suc (n .ran); stood = n .stood; cleared = n .cleared; faulted = n .faulted }
+totalRun (faulted fault place) n = record { ran = n .ran; stood = n .stood; cleared = n .cleared; faulted = suc (n .faulted) }
+
+-- how many ran, stood, were cleared and faulted
 abbrev pub total : Event → Totals → Totals
-total (ran t l) n = record { ran = suc (n .ran); stood = n .stood; cleared = n .cleared }
-total (stood t) n = record { ran = n .ran; stood = suc (n .stood); cleared = n .cleared }
-total (cleared t) n = record { ran = n .ran; stood = n .stood; cleared = suc (n .cleared) }
+total (ran t o) n = totalRun (o .ending) n
+total (stood t) n = record { ran = n .ran; stood = suc (n .stood); cleared = n .cleared; faulted = n .faulted }
+total (cleared t) n = record { ran = n .ran; stood = n .stood; cleared = suc (n .cleared); faulted = n .faulted }
 
 abbrev pub totals : List Event → Totals
-totals [] = record { ran = 0; stood = 0; cleared = 0 }
+totals [] = record { ran = 0; stood = 0; cleared = 0; faulted = 0 }
 totals (e ∷ events) = total e (totals events)

@@ -6,16 +6,17 @@ use Prim.Native.Nat.{ℕ}
 use lib.Dec.{eqb, ltb, leb}
 use lib.IntN.{ℤ}
 use Rattle.machine.specs.Settings.{Environment, valueIn, Entry, isSome, lookup, after}
+use Rattle.machine.specs.Run.{Outcome, run}
 use Rattle.model.specs.History.{infinity, Status, New, Valid, Invalid, Lists, empty, runLists, Change, change, timestamp, lists, History, asOf, allSettings, eqZ, allHold}
 
--- what a turn did with the change of a timestamp; the lists that a run put there are kept with it
+-- what a turn did with the change of a timestamp; what a run left, its lists and how it ended, is kept with it. One that faulted is a run too (document 02, R-2)
 pub data Event : Type 0 where
-  ran : ℕ → Lists → Event
+  ran : ℕ → Outcome → Event
   stood : ℕ → Event
   cleared : ℕ → Event
 
 abbrev pub eventTimestamp : Event → ℕ
-eventTimestamp (ran t l) = t
+eventTimestamp (ran t o) = t
 eventTimestamp (stood t) = t
 eventTimestamp (cleared t) = t
 
@@ -109,11 +110,11 @@ install h view upto t p w old new event =
 -- document 01's additions: a withdrawn change is cleared; an Invalid one whose seen values all hold stood; any other is executed
 abbrev pub rerun : Bool → History → List ℤ → Environment → ℕ → List ℕ → Lists → Step
 rerun true h view upto t p old = turned (map (replace t (change t p Valid false old)) h) view (stood t)
-rerun false h view upto t p old = install h view upto t p false old (runLists upto p) (ran t (runLists upto p))
+rerun false h view upto t p old = install h view upto t p false old (runLists upto p) (ran t (run upto p))
 
 abbrev pub execute : History → List ℤ → Environment → Change → Step
 execute h view upto (change t p s true old) = install h view upto t p true old empty (cleared t)
-execute h view upto (change t p New false old) = install h view upto t p false old (runLists upto p) (ran t (runLists upto p))
+execute h view upto (change t p New false old) = install h view upto t p false old (runLists upto p) (ran t (run upto p))
 execute h view upto (change t p Invalid false old) = rerun (allHold (old .reads) upto) h view upto t p old
 execute h view upto (change t p Valid false old) = idle
 

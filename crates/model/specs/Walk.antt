@@ -5,6 +5,7 @@ use Prim.Native.Nat.{ℕ}
 use lib.Dec.{ltb}
 use lib.IntN.{ℤ}
 use Rattle.machine.specs.Settings.{Environment, valueIn, isSome, lookup, after}
+use Rattle.machine.specs.Run.{run}
 use Rattle.model.specs.History.{New, Valid, Invalid, Lists, empty, runLists, Change, change, timestamp, lists, History, allSettings, eqZ, allHold}
 use Rattle.model.specs.Figure.{Event, ran, stood, cleared, Step, idle, turned, readsAny, markUpdate}
 
@@ -40,14 +41,14 @@ settle env view t p w old new h e =
 
 abbrev pub retry : Bool → Environment → List ℤ → ℕ → List ℕ → Lists → History → Step
 retry true env view t p old h = turned (change t p Valid false old ∷ h) view (stood t)
-retry false env view t p old h = settle env view t p false old (runLists env p) h (ran t (runLists env p))
+retry false env view t p old h = settle env view t p false old (runLists env p) h (ran t (run env p))
 
 -- one turn, where env is the settings as of the first change
 abbrev pub walk : Environment → List ℤ → History → Step
 walk env view [] = idle
 walk env view (change t p Valid w l ∷ h) = pass (change t p Valid w l) (walk (after (l .writes) env) view h)
 walk env view (change t p New true l ∷ h) = settle env view t p true l empty h (cleared t)
-walk env view (change t p New false l ∷ h) = settle env view t p false l (runLists env p) h (ran t (runLists env p))
+walk env view (change t p New false l ∷ h) = settle env view t p false l (runLists env p) h (ran t (run env p))
 walk env view (change t p Invalid true l ∷ h) = settle env view t p true l empty h (cleared t)
 walk env view (change t p Invalid false l ∷ h) = retry (allHold (l .reads) env) env view t p l h
 

@@ -14,14 +14,17 @@ pub enum Turned {
     Ran(u64),
     Stood(u64),
     Cleared(u64),
+    // Its run broke off at this place, counted from 0.
+    Faulted(u64, usize),
     Refused(u8),
 }
 
-// How many turns of a drain ran, stood and were cleared.
+// How many turns of a drain ran, stood, were cleared and faulted.
 pub struct Totals {
     pub ran: usize,
     pub stood: usize,
     pub cleared: usize,
+    pub faulted: usize,
 }
 
 pub enum Drained {

@@ -76,9 +76,8 @@ pub record Replaceable (k : ℕ) (C : Columns) (seen written : List ℤ) (length
 abbrev pub newColumns : Run → record-of.Lists → NewLists
 newColumns r l = newLists (r .reads) (r .writes) (l .sources) (l .seen) (l .targets) (l .written)
 
--- the new lists, what follows from them, and they are stored
-pub record Replaced (a : Act) (k : ℕ) (C : Columns) (seen written : List ℤ) (lengths programs readers writers status : List ℕ) (view : List ℤ) (status' : List ℕ) (C' : Columns) (seen' written' view' : List ℤ) (settled' known' : List ℕ) (before' after' : List ℤ) : Type 0 where
-  pub new : Run
+-- the new lists, left by this run, what follows from them, and they are stored
+pub record Replaced (a : Act) (new : Run) (k : ℕ) (C : Columns) (seen written : List ℤ) (lengths programs readers writers status : List ℕ) (view : List ℤ) (status' : List ℕ) (C' : Columns) (seen' written' view' : List ℤ) (settled' known' : List ℕ) (before' after' : List ℤ) : Type 0 where
   pub arrays : record-of.Lists
   pub made : Made a new arrays (run (valuesAt C written k) (programIn lengths programs (getD (C .order) k 0)))
   pub follows : Propagated k C written (entries (new .writes) (arrays .targets) (arrays .written)) readers writers status view status' view' settled' known' before' after'

@@ -4,6 +4,7 @@ use acts::alter;
 use acts::new_lists;
 use marking::follow_view;
 use marking::mark_settings;
+use run_record::Run;
 use storing::put_lists;
 use values::restore;
 ghost use mathlib.Core.Path.{_≡_};
@@ -77,7 +78,7 @@ fn propagate(
     restore(&changed[0..count], after, before);
 }
 
-// The lists of the change at position k replaced by those that it has now: none where it is cleared, else those of its run.
+// The lists of the change at position k replaced by those that it has now: none where it is cleared, else those of its run. Answers the run.
 pub fn replace(
     act: Act,
     k: usize,
@@ -98,19 +99,19 @@ pub fn replace(
     readers: &[u16; 1024],
     writers: &[u16; 1024],
     settled: &mut [u16; 1024],
-)
+) -> Run
     requires { ⌜
         (let C = columns (now order) (now reads) (now sources) (now writes) (now targets) in
         (act ≡ variant.Stand → ⊥)
         × Replaceable k C (now seen) (now written) (now lengths) (now programs) (now status) (now view) (now known) (now before)
         (now after) (now readers) (now settled))
         ⌝ }
-    ensures { λ _. ⌜
+    ensures { λ r. ⌜
         (let C =
         columns (now (order .entry)) (now (reads .entry)) (now (sources .entry)) (now (writes .entry)) (now (targets .entry)) in
         let C' =
         columns (now (order .entry)) (now (reads .exit)) (now (sources .exit)) (now (writes .exit)) (now (targets .exit)) in
-        Replaced act k C (now (seen .entry)) (now (written .entry)) (now (lengths .entry)) (now (programs .entry))
+        Replaced act r k C (now (seen .entry)) (now (written .entry)) (now (lengths .entry)) (now (programs .entry))
         (now (readers .entry)) (now (writers .entry)) (now (status .entry)) (now (view .entry)) (now (status .exit)) C'
         (now (seen .exit)) (now (written .exit)) (now (view .exit)) (now (settled .exit)) (now (known .exit)) (now (before .exit))
         (now (after .exit)))
@@ -173,4 +174,5 @@ pub fn replace(
         targets,
         written,
     );
+    run
 }

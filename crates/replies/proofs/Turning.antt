@@ -28,6 +28,7 @@ idle-is turn-answer.Idle q = refl
 idle-is (turn-answer.Ran t) q = true-is-not-false (sym q)
 idle-is (turn-answer.Stood t) q = true-is-not-false (sym q)
 idle-is (turn-answer.Cleared t) q = true-is-not-false (sym q)
+idle-is (turn-answer.Faulted t place) q = true-is-not-false (sym q)
 idle-is (turn-answer.Refused r) q = true-is-not-false (sym q)
 
 turn-formed : (T : Tables) → Formed capacity T → Formed capacity (turn capacity T .tables)

@@ -25,6 +25,7 @@ isIdle turn-answer.Idle = true
 isIdle (turn-answer.Ran t) = false
 isIdle (turn-answer.Stood t) = false
 isIdle (turn-answer.Cleared t) = false
+isIdle (turn-answer.Faulted t place) = false
 isIdle (turn-answer.Refused r) = false
 
 -- the turns of a drain of T are put as lines, in at most 8,192 bytes, and the view is the one after it

@@ -50,6 +50,7 @@ fn is_idle(answer: Turned) -> bool
         Turned::Ran(_) => false,
         Turned::Stood(_) => false,
         Turned::Cleared(_) => false,
+        Turned::Faulted(_, _) => false,
         Turned::Refused(_) => false,
     }
 }

@@ -1,3 +1,4 @@
 pub mod Registers
 pub mod Entries
 pub mod Steps
+pub mod Endings

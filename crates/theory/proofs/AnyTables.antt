@@ -6,9 +6,11 @@ use Prim.Native.Nat.{ℕ}
 use native.Mathlib.Omega.{arith}
 use lib.IntN.{ℤ}
 use lib.ListN.{length, length-map}
+use Rattle.machine.proofs.Cases.{impossible}
+use Rattle.model.specs.declared.Turned.{Turned}
 use Rattle.model.specs.declared.Turned.the-variants.{Idle}
 use Rattle.model.specs.History.{start, History}
-use Rattle.model.specs.Figure.{Event, ran, stood, cleared, Step, idle, turned}
+use Rattle.model.specs.Figure.{Event, Step, idle, turned}
 use Rattle.model.specs.Drain.{drainNone, drainMore, drainHistory}
 use Rattle.model.specs.Cabinet.{Cabinet, historyOf, withHistory}
 use Rattle.model.specs.Tables.{Tables, encode}
@@ -16,6 +18,7 @@ use Rattle.model.specs.Form.{lengthsFit, Formed}
 use Rattle.model.specs.Calls.{setUp, eventAnswer, roundOf, drainOf}
 use Rattle.model.specs.Log.{Call, Ledger}
 use Rattle.model.specs.Sound.{Sound}
+use Rattle.model.proofs.Answers.{by-event}
 use Rattle.model.proofs.Cabinet.{withHistory-history, same-history, history-again}
 use Rattle.model.proofs.Order.{changesAt-length}
 use Rattle.model.proofs.Keeps.{StepKeeps, Keeps, keeps-length, round-keeps, drain-keeps, round-sound, drain-sound}
@@ -58,9 +61,8 @@ drains-any n T f = subst (DrainsAny n) (facts f .laid) (drain-any (facts f .soun
 -- ---- its turns
 
 event-not-idle : (e : Event) → ¬ (eventAnswer e ≡ Idle)
-event-not-idle (ran t l) q = let z : _≡_ {A = ℕ} 0 1 = cc in omega arith
-event-not-idle (stood t) q = let z : _≡_ {A = ℕ} 0 1 = cc in omega arith
-event-not-idle (cleared t) q = let z : _≡_ {A = ℕ} 0 1 = cc in omega arith
+event-not-idle e =
+    by-event (λ (a : Turned). ¬ (a ≡ Idle)) (λ t q. impossible (cc)) (λ t q. impossible (cc)) (λ t q. impossible (cc)) (λ t place q. impossible (cc)) e
 
 module _ {n : ℕ} {c : Cabinet} (s : Sound n c) where
   -- where a turn is idle

@@ -49,8 +49,12 @@ drains n c k h =
       form-after = rw (drain-call s) (encode-formed (drain-sound s) .form);
     })
 
+-- what every list of calls on tables just set up reaches
+pub reached : (n : ℕ) (T : Tables) → lengthsFit n T ≡ true → (calls : List Call) → Reached n (afterCalls n calls (begun (setUp n T .tables)))
+reached n T e calls = calls-reached n calls (begun (setUp n T .tables)) (set-up-reached n T e)
+
 -- demand 3
 pub demand3 : (n : ℕ) (T : Tables) → lengthsFit n T ≡ true → (calls : List Call) → Demand3 n T calls
 demand3 n T e calls =
-    let r = calls-reached n calls (begun (setUp n T .tables)) (set-up-reached n T e) in
+    let r = reached n T e calls in
     drains n (r .cabinet) (afterCalls n calls (begun (setUp n T .tables))) (r .holding)

@@ -1,20 +1,24 @@
 -- What a drain leaves: the fresh run over the book, by turns of which none is in vain and no two are of one change.
 use mathlib.Core.Path.{_≡_, refl, sym, ap, _∙_}
+use mathlib.Core.Bool.{true, false}
 use mathlib.Core.List.{List, [], _∷_, _++_, map, append-nil, append-assoc}
+use mathlib.Core.Option.{some}
 use Prim.Native.Nat.{ℕ, zero, suc, _≤_}
 use native.Mathlib.Omega.{arith}
 use lib.IntN.{ℤ}
 use lib.ListN.{length}
-use Rattle.machine.specs.Settings.{Environment, after}
-use Rattle.model.specs.History.{start, New, Valid, Invalid, Lists, change, History, afterAll, allSettings}
+use Rattle.machine.specs.Settings.{Environment, Holds, after}
+use Rattle.model.specs.History.{start, New, Valid, Invalid, Lists, runLists, change, History, afterAll, allSettings}
 use Rattle.model.specs.Figure.{Event, Step, idle, turned, eventTimestamp, round}
 use Rattle.model.specs.Drain.{Drain, drainNone, drainStep, drainFor, drainHistory, RisingEvents}
-use Rattle.model.specs.Book.{bookOf, freshRun, freshEnd}
+use Rattle.model.specs.Book.{booked, bookOf, freshAfter, freshRun, freshEnd}
 use Rattle.model.specs.Sound.{Rising}
+use Rattle.model.proofs.Programs.{runLists-holds, runLists-run}
 use Rattle.model.proofs.Keeps.{StepKeeps, keeps-rising, round-keeps}
 use Rattle.model.proofs.Figure.{AllValid, drain-ends}
 use Rattle.theory.specs.Demand.{NoTurn, OneTurnEach, NoneInVain, listed}
-use Rattle.theory.proofs.Invariant.{AllConsistent, Invariant}
+use Rattle.theory.specs.Faults.{AllShown}
+use Rattle.theory.proofs.Invariant.{AllConsistent, AllTraced, Invariant}
 use Rattle.theory.proofs.Turns.{valid-fresh, StepClaim, turn-claim}
 
 -- ---- turns by rising timestamp are of different changes
@@ -63,6 +67,18 @@ all-fresh env (change t p Valid w l ∷ h) k v =
     let rest = all-fresh (after (l .writes) env) h (k .1) v in
     (rw f (ap ((t, l) ∷_) (rest .0)), rest .1 ∙ ap (λ (m : Lists). freshEnd (bookOf h) (after (m .writes) env)) (sym f))
 
+-- where every change is Valid, its last run was its fresh run
+all-shown : (env : Environment) (events : List Event) (h : History) → AllConsistent env h → AllTraced events h → AllValid h → AllShown events (bookOf h) env
+all-shown env events [] k traced v = tt
+all-shown env events (change t p New w l ∷ h) k traced v = absurd v
+all-shown env events (change t p Invalid w l ∷ h) k traced v = absurd v
+all-shown env events (change t p Valid true l ∷ h) k traced v =
+    all-shown (freshAfter (booked t p true) env) events h (rw (k .0) at (k .1)) (traced .1) v
+all-shown env events (change t p Valid false l ∷ h) k traced v =
+    let (env', last, lists) = traced .0 in
+    let holds : Holds env (runLists env' p .reads) = rw (lists, ← k .0) (runLists-holds env p) in
+    (last ∙ ap some (sym (runLists-run env' env p holds)), all-shown (freshAfter (booked t p false) env) events h (rw (← k .0) at (k .1)) (traced .1) v)
+
 pub record DrainClaim (events : List Event) (h : History) (d : Drain) : Type 0 where
   pub invariant : Invariant (events ++ d .events) (d .history) (d .view)
   pub same-book : bookOf (d .history) ≡ bookOf h
@@ -70,6 +86,7 @@ pub record DrainClaim (events : List Event) (h : History) (d : Drain) : Type 0 w
   pub fresh-view : d .view ≡ allSettings (freshEnd (bookOf h) start)
   pub one-turn-each : OneTurnEach (d .events)
   pub none-in-vain : NoneInVain (bookOf h) events (d .events)
+  pub shown : AllShown (events ++ d .events) (bookOf h) start
 
 pub drain-claim : (events : List Event) (h : History) (view : List ℤ) → Rising 0 h → Invariant events h view → DrainClaim events h (drainHistory start h view)
 unfolding drainHistory
@@ -85,4 +102,5 @@ drain-claim events h view r i =
       fresh-view = k .invariant .viewed ∙ ap allSettings (rw (k .same-book) at (f .1));
       one-turn-each = rising-one-turn 0 (d .events) (ends .rising-events);
       none-in-vain = k .none-in-vain;
+      shown = rw (k .same-book) at (all-shown start (events ++ d .events) (d .history) (k .invariant .consistent) (k .invariant .traced) (ends .all-valid));
     }

@@ -8,3 +8,4 @@ pub mod Calls
 pub mod Reached
 pub mod AnyTables
 pub mod Demand
+pub mod Faults

@@ -41,13 +41,12 @@ unread-holds live env env' a (e ∷ l) h k =
 
 mark-consistent : (live : ℕ → Bool) (env env' : Environment) → Agree live env env' → (c : Change) → Consistent env c → Consistent env' (markUpdate (readsAny live (lists c .reads)) c)
 mark-consistent live env env' a (change t p New w l) k = k
-mark-consistent live env env' a (change t p Invalid true l) k = tt
-mark-consistent live env env' a (change t p Invalid false l) k = k
+mark-consistent live env env' a (change t p Invalid w l) k = tt
 mark-consistent live env env' a (change t p Valid true l) k = rw k
 mark-consistent live env env' a (change t p Valid false l) k = go (readsAny live (l .reads)) refl
   where
     go : (b : Bool) → readsAny live (l .reads) ≡ b → Consistent env' (change t p (mark b Valid) false l)
-    go true q = (env, k)
+    go true q = tt
     go false q = runLists-same env env' p (unread-holds live env env' a (runLists env p .reads) (rw k q) (runLists-holds env p)) ∙ k
 
 pub marked-consistent : (live : ℕ → Bool) (env env' : Environment) → Agree live env env' → (h : History) → AllConsistent env h → AllConsistent env' (markLive live h)

@@ -8,6 +8,7 @@ use native.Mathlib.Omega.{arith}
 use borrow.Author.Tests.{lt-ltb, le-ltb}
 use lib.IntN.{ℤ}
 use Rattle.machine.specs.Settings.{Environment, valueIn, Holds, after}
+use Rattle.machine.specs.Run.{Outcome, run}
 use Rattle.machine.proofs.Cases.{by-test, impossible, true-is-not-false}
 use Rattle.model.specs.History.{start, Status, New, Valid, Invalid, Lists, empty, runLists, Change, change, timestamp, History, afterAll, allSettings, allHold}
 use Rattle.model.specs.Figure.{Event, ran, stood, cleared, Step, idle, turned, eventTimestamp, round}
@@ -15,22 +16,25 @@ use Rattle.model.specs.Walk.{differs, markLive, liveAtEnd, pass, settle, retry,
 use Rattle.model.specs.Book.{Book, booked, bookOf, freshLists, freshBefore}
 use Rattle.model.specs.Sound.{Rising, NotIn}
 use Rattle.model.proofs.Values.{value-allSettings, allSettings-same}
-use Rattle.model.proofs.Programs.{runLists-same, allHold-holds, holds-allHold}
+use Rattle.model.proofs.Programs.{runLists-same, runLists-reads, allHold-holds, holds-allHold}
 use Rattle.model.proofs.Keeps.{StepKeeps, round-keeps}
 use Rattle.model.proofs.Figure.{round-walk}
 use Rattle.theory.specs.Demand.{lastRan, NotInVain}
 use Rattle.theory.proofs.Events.{last-other, last-stood, last-ran}
-use Rattle.theory.proofs.Invariant.{Consistent, AllConsistent, Traced, AllTraced, Invariant}
+use Rattle.theory.proofs.Invariant.{Consistent, AllConsistent, LastRan, Traced, AllTraced, Invariant}
 use Rattle.theory.proofs.Marking.{differs-agree, marked-consistent, marked-after, marked-book, marked-traced, agree-after, live-unwritten}
 
 -- ---- the turns so far
 
+other-last-ran : (events : List Event) (e : Event) (t : ℕ) (p : List ℕ) (l : Lists) → ¬ (eventTimestamp e ≡ t) → LastRan events t p l → LastRan (events ++ (e ∷ [])) t p l
+other-last-ran events e t p l n (env, last, lists) = (env, last-other events e t n ∙ last, lists)
+
 other-traced : (events : List Event) (e : Event) (c : Change) → ¬ (eventTimestamp e ≡ timestamp c) → Traced events c → Traced (events ++ (e ∷ [])) c
 other-traced events e (change t p New w l) n k = last-other events e t n ∙ k
 other-traced events e (change t p Valid true l) n k = tt
-other-traced events e (change t p Valid false l) n k = last-other events e t n ∙ k
+other-traced events e (change t p Valid false l) n k = other-last-ran events e t p l n k
 other-traced events e (change t p Invalid true l) n k = tt
-other-traced events e (change t p Invalid false l) n k = last-other events e t n ∙ k
+other-traced events e (change t p Invalid false l) n k = other-last-ran events e t p l n k
 
 -- a turn of a change below a history
 later-traced : (events : List Event) (e : Event) (b : ℕ) (h : History) → eventTimestamp e ≤ b → Rising b h → AllTraced events h → AllTraced (events ++ (e ∷ [])) h
@@ -42,7 +46,7 @@ later-traced events e b (c ∷ h) q r k =
 
 -- NotInVain, where the fresh run begins with these settings
 abbrev NotInVainFrom : Environment → Book → List Event → Event → Type 0
-NotInVainFrom env book earlier (ran t new) = (old : Lists) → lastRan earlier t ≡ some old → ¬ (Holds (freshBefore t book env) (old .reads))
+NotInVainFrom env book earlier (ran t new) = (old : Outcome) → lastRan earlier t ≡ some old → ¬ (Holds (freshBefore t book env) (old .reads))
 NotInVainFrom env book earlier (stood t) = Unit {0}
 NotInVainFrom env book earlier (cleared t) = Unit {0}
 
@@ -63,10 +67,11 @@ passed-not-in-vain env t p w l book events (stood u) k q n = tt
 passed-not-in-vain env t p w l book events (cleared u) k q n = tt
 
 -- a run is not in vain where a value seen is no longer the setting's
-changed-not-in-vain : (env : Environment) (book : Book) (events : List Event) (t : ℕ) (p : List ℕ) (l new : Lists) → lastRan events t ≡ some l → allHold (l .reads) env ≡ false → NotInVainFrom env (booked t p false ∷ book) events (ran t new)
-changed-not-in-vain env book events t p l new q f old r s =
-    let same : old ≡ l = cc in
-    let held : allHold (l .reads) env ≡ true = holds-allHold (l .reads) env (rw (le-ltb t t (omega arith), same) at s) in
+changed-not-in-vain : (env : Environment) (book : Book) (events : List Event) (t : ℕ) (p : List ℕ) (l : Lists) (new : Outcome) → LastRan events t p l → allHold (l .reads) env ≡ false → NotInVainFrom env (booked t p false ∷ book) events (ran t new)
+changed-not-in-vain env book events t p l new (env', last, lists) f old r s =
+    let same : old ≡ run env' p = cc in
+    let reads : old .reads ≡ l .reads = ap (λ (o : Outcome). o .reads) same ∙ sym (runLists-reads env' p) ∙ ap (λ (m : Lists). m .reads) lists in
+    let held : allHold (l .reads) env ≡ true = holds-allHold (l .reads) env (rw (le-ltb t t (omega arith), reads) at s) in
     true-is-not-false (sym held ∙ f)
 
 -- ---- the turn
@@ -129,7 +134,7 @@ walk-kept env view b events (change t p Valid w l ∷ h) k v r tr =
 walk-kept env view b events (change t p New true l ∷ h) k v r tr =
     settle-kept env view b events t p New true l h k v r tr empty (cleared t) refl refl tt tt
 walk-kept env view b events (change t p New false l ∷ h) k v r tr =
-    settle-kept env view b events t p New false l h k v r tr (runLists env p) (ran t (runLists env p)) refl refl (last-ran events t (runLists env p))
+    settle-kept env view b events t p New false l h k v r tr (runLists env p) (ran t (run env p)) refl refl (env, last-ran events t (run env p), refl)
     (λ old seen s. impossible (cc))
 walk-kept env view b events (change t p Invalid true l ∷ h) k v r tr =
     settle-kept env view b events t p Invalid true l h k v r tr empty (cleared t) refl refl tt tt
@@ -138,19 +143,19 @@ walk-kept env view b events (change t p Invalid false l ∷ h) k v r tr =
   where
     go : (y : Bool) → allHold (l .reads) env ≡ y → KeptStep env b events (change t p Invalid false l ∷ h) (retry y env view t p l h)
     go true q =
-        let (env', k') = k .0 in
+        let (env', last, lists) = tr .0 in
         record {
-          consistent = (runLists-same env' env p (rw k' (allHold-holds (l .reads) env q)) ∙ k', k .1);
+          consistent = (runLists-same env' env p (rw lists (allHold-holds (l .reads) env q)) ∙ lists, k .1);
           viewed = v;
-          traced = (last-stood events t t ∙ tr .0, later-traced events (stood t) t h (omega arith) (r .2) (tr .1));
+          traced = ((env', last-stood events t t ∙ last, lists), later-traced events (stood t) t h (omega arith) (r .2) (tr .1));
           same-book = refl;
           not-in-vain = tt;
           later = r .0;
           held = λ u m. omega arith;
         }
     go false q =
-        settle-kept env view b events t p Invalid false l h k v r tr (runLists env p) (ran t (runLists env p)) refl refl (last-ran events t (runLists env p))
-        (changed-not-in-vain env (bookOf h) events t p l (runLists env p) (tr .0) q)
+        settle-kept env view b events t p Invalid false l h k v r tr (runLists env p) (ran t (run env p)) refl refl (env, last-ran events t (run env p), refl)
+        (changed-not-in-vain env (bookOf h) events t p l (run env p) (tr .0) q)
 
 -- ---- a turn from the start
 

@@ -6,6 +6,7 @@ use mathlib.Core.Option.{Option, none, some}
 use Prim.Native.Nat.{ℕ, _<_}
 use lib.Dec.{eqb}
 use Rattle.machine.specs.Settings.{Holds}
+use Rattle.machine.specs.Run.{Outcome}
 use Rattle.model.specs.declared.Drained.the-variants.{Counted}
 use Rattle.model.specs.History.{start, Lists, Change, timestamp, lists, allSettings}
 use Rattle.model.specs.Figure.{Event, ran, stood, cleared, eventTimestamp}
@@ -27,22 +28,22 @@ abbrev pub OneTurnEach : List Event → Type 0
 OneTurnEach [] = Unit {0}
 OneTurnEach (e ∷ events) = NoTurn (eventTimestamp e) events × OneTurnEach events
 
--- the lists that the last run of a change among some turns put there
-abbrev pub ranLists : Event → ℕ → Option Lists → Option Lists
-ranLists (ran u l) t before = cond (eqb u t) (some l) before
-ranLists (stood u) t before = before
-ranLists (cleared u) t before = before
+-- what the last run of a change among some turns left: the lists that it put there, and how it ended. A turn that answers faulted ran its change too (document 02, R-2)
+abbrev pub ranOutcome : Event → ℕ → Option Outcome → Option Outcome
+ranOutcome (ran u o) t before = cond (eqb u t) (some o) before
+ranOutcome (stood u) t before = before
+ranOutcome (cleared u) t before = before
 
-abbrev pub lastRanAfter : Option Lists → List Event → ℕ → Option Lists
+abbrev pub lastRanAfter : Option Outcome → List Event → ℕ → Option Outcome
 lastRanAfter before [] t = before
-lastRanAfter before (e ∷ events) t = lastRanAfter (ranLists e t before) events t
+lastRanAfter before (e ∷ events) t = lastRanAfter (ranOutcome e t before) events t
 
-abbrev pub lastRan : List Event → ℕ → Option Lists
+abbrev pub lastRan : List Event → ℕ → Option Outcome
 lastRan events t = lastRanAfter none events t
 
 -- a turn that runs its change again does so because some setting that it had read does not hold, in the fresh run just before it, the value it saw
 abbrev pub NotInVain : Book → List Event → Event → Type 0
-NotInVain book earlier (ran t new) = (old : Lists) → lastRan earlier t ≡ some old → ¬ (Holds (freshBefore t book start) (old .reads))
+NotInVain book earlier (ran t new) = (old : Outcome) → lastRan earlier t ≡ some old → ¬ (Holds (freshBefore t book start) (old .reads))
 NotInVain book earlier (stood t) = Unit {0}
 NotInVain book earlier (cleared t) = Unit {0}
 
@@ -68,7 +69,7 @@ pub record Drains (n : ℕ) (k : Ledger) : Type 0 where
   pub fresh-view : drain n (k .tables) .tables .view ≡ allSettings (freshEnd (k .book) start)
   -- "In that drain no change is given two turns"
   pub one-turn-each : OneTurnEach (drainEvents n (k .tables))
-  -- "and none that is not withdrawn is run again when every setting it had read holds, in that fresh run just before it, the value it saw"; "A turn of that drain runs its change again if it answers ran and an earlier turn in the list, single or a drain's, ran that change and replaced its lists. What the change had read and saw is the read list and seen values that the last such earlier turn put there"
+  -- "and none that is not withdrawn is run again when every setting it had read holds, in that fresh run just before it, the value it saw"; "A turn of that drain runs its change again if it answers ran and an earlier turn in the list, single or a drain's, ran that change and replaced its lists. What the change had read and saw is the read list and seen values that the last such earlier turn put there"; document 02, R-2: "A needless rerun that faults stays ruled out like any other." So a turn that answers faulted runs its change as one that answers ran does
   pub none-in-vain : NoneInVain (k .book) (k .events) (drainEvents n (k .tables))
   -- the tables are in form before and after it
   pub form-before : inForm n (k .tables) ≡ true

@@ -5,6 +5,7 @@ use mathlib.Core.List.{List, _∷_}
 use mathlib.Core.Logic.{_⊎_, inl, inr}
 use lib.IntN.{ℤ}
 use Rattle.machine.specs.Settings.{Environment}
+use Rattle.machine.specs.Run.{run}
 use Rattle.machine.proofs.Cases.{impossible}
 use Rattle.model.specs.History.{New, Valid, Invalid, Lists, empty, runLists, Change, change, timestamp, program, status, withdrawn, lists, History, allHold}
 use Rattle.model.specs.Tables.{statusNumber, flagNumber}
@@ -21,7 +22,7 @@ settleChange env view c new h e = settle env view (timestamp c) (program c) (wit
 abbrev pub stepBy : Act → Environment → List ℤ → Change → History → Step
 stepBy act.Clear env view c h = settleChange env view c empty h (cleared (timestamp c))
 stepBy act.Stand env view c h = turned (change (timestamp c) (program c) Valid (withdrawn c) (lists c) ∷ h) view (stood (timestamp c))
-stepBy act.Run env view c h = settleChange env view c (runLists env (program c)) h (ran (timestamp c) (runLists env (program c)))
+stepBy act.Run env view c h = settleChange env view c (runLists env (program c)) h (ran (timestamp c) (run env (program c)))
 
 -- what the turn of a change does
 abbrev pub actBy : Environment → Change → Act

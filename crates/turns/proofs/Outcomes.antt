@@ -10,6 +10,8 @@ use lib.ListN.{length, getD, set, take}
 use Rattle.machine.specs.Settings.{settingCount, Environment, Entry, valueIn, entries, after}
 use Rattle.machine.specs.Run.{Outcome, run}
 use Rattle.machine.proofs.Cases.{impossible, true-is-not-false}
+use Rattle.run_record.specs.declared.Run.{Run}
+use Rattle.run_record.specs.Record.{endingOf}
 use Rattle.model.specs.declared.Turned.{Turned}
 use Rattle.model.specs.declared.Turned.the-variants as turn-answer
 use Rattle.model.specs.History.{Valid, Lists, empty, runLists, Change, change, timestamp, program, status, withdrawn, lists, allSettings, eqZ}
@@ -191,16 +193,16 @@ module _ {T : Tables} (g : Formed (length (T .order)) T) (k : ℕ) (w : waitingI
               (uses-turned g k (p .changed) changes agree held-here replacing viewOf u (p .settings) (p .marked) (p .settled-to) (next-sound g k w replacing (markLive changes (later g k w)) viewOf left-round left-settled))
 
   -- it was cleared or ran
-  module _ {a : Act} (d : a ≡ actIn g k w) (moves : a ≡ act.Stand → ⊥) {t : ℕ} (s : t ≡ getD (T .timestamps) place 0) {readers writers settled : List ℕ} (u : Uses (k + 1) T readers writers settled) {status' : List ℕ} {C' : Columns} {seen' written' view' : List ℤ} {settled' known' : List ℕ} {before' after' : List ℤ} (r : replacement.Replaced a k (columnsOf T) (T .seen) (T .written) (T .lengths) (T .programs) readers writers (T .status) (T .view) status' C' seen' written' view' settled' known' before' after') {status'' : List ℕ} (q : status'' ≡ set status' place 1) where
+  module _ {a : Act} (d : a ≡ actIn g k w) (moves : a ≡ act.Stand → ⊥) {t : ℕ} (s : t ≡ getD (T .timestamps) place 0) {readers writers settled : List ℕ} (u : Uses (k + 1) T readers writers settled) {status' : List ℕ} {C' : Columns} {seen' written' view' : List ℤ} {settled' known' : List ℕ} {before' after' : List ℤ} {new : Run} (r : replacement.Replaced a new k (columnsOf T) (T .seen) (T .written) (T .lengths) (T .programs) readers writers (T .status) (T .view) status' C' seen' written' view' settled' known' before' after') {status'' : List ℕ} (q : status'' ≡ set status' place 1) where
     abbrev pub leftTables : Tables
     leftTables = withTurn T status'' (C' .reads) (C' .writes) (C' .sources) seen' (C' .targets) written' view'
 
-    pub turn-replaced : {answer : Turned} → answer ≡ turns.answerBy a t → (reply answer leftTables ≡ turns.turned T) × turns.Going (k + 1) leftTables known' before' after' readers writers settled'
+    pub turn-replaced : {answer : Turned} → answer ≡ turns.answerBy a new t → (reply answer leftTables ≡ turns.turned T) × turns.Going (k + 1) leftTables known' before' after' readers writers settled'
     unfolding runLists
-    turn-replaced e = subst (λ (answer : Turned). (reply answer leftTables ≡ turns.turned T) × turns.Going (k + 1) leftTables known' before' after' readers writers settled') (sym (e ∙ ap (turns.answerBy a) (s ∙ timestamp-here g k w))) (go a refl)
+    turn-replaced e = subst (λ (answer : Turned). (reply answer leftTables ≡ turns.turned T) × turns.Going (k + 1) leftTables known' before' after' readers writers settled') (sym (e ∙ ap (turns.answerBy a new) (s ∙ timestamp-here g k w))) (go a refl)
       where
         l : NewLists
-        l = newColumns (r .new) (r .arrays)
+        l = newColumns new (r .arrays)
 
         short : length (programIn (T .lengths) (T .programs) place) ≤ 256
         short = rw (program-here g k held-here) (program-size g k held-here)
@@ -211,7 +213,7 @@ module _ {T : Tables} (g : Formed (length (T .order)) T) (k : ℕ) (w : waitingI
         same : run (valuesBelow (T .order) (T .writes) (T .targets) (T .written) k) (programIn (T .lengths) (T .programs) place) ≡ run env (program this)
         same = ap₂ run upto (program-here g k held-here)
 
-        go : (b : Act) → a ≡ b → (reply (turns.answerBy a (timestamp this)) leftTables ≡ turns.turned T) × turns.Going (k + 1) leftTables known' before' after' readers writers settled'
+        go : (b : Act) → a ≡ b → (reply (turns.answerBy a new (timestamp this)) leftTables ≡ turns.turned T) × turns.Going (k + 1) leftTables known' before' after' readers writers settled'
         go act.Clear e =
             let m = r .made .cleared e in
             let read = no-entries (l .reads) (l .sources) (l .seen) (m .0) in
@@ -220,9 +222,10 @@ module _ {T : Tables} (g : Formed (length (T .order)) T) (k : ℕ) (w : waitingI
             (rw e (turn-left l fits empty read wrote (r .follows) u q (r .put) d step), going-left l fits empty read wrote (r .follows) u q (r .put) d step)
         go act.Stand e = absurd (moves e)
         go act.Run e =
-            let o = r .made .ran e in
-            let new = runLists env (program this) in
-            let read : entries (l .reads) (l .sources) (l .seen) ≡ new .reads = ap (λ (x : Outcome). x .reads) (o .outcome ∙ same) in
-            let wrote : entries (l .writes) (l .targets) (l .written) ≡ new .writes = ap (λ (x : Outcome). x .writes) (o .outcome ∙ same) in
+            let o = r .made .ran e .outcome ∙ same in
+            let lists = runLists env (program this) in
+            let read : entries (l .reads) (l .sources) (l .seen) ≡ lists .reads = ap (λ (x : Outcome). x .reads) o in
+            let wrote : entries (l .writes) (l .targets) (l .written) ≡ lists .writes = ap (λ (x : Outcome). x .writes) o in
+            let ending : endingOf new ≡ run env (program this) .ending = ap (λ (x : Outcome). x .ending) o in
             let step = ap (λ (b : Act). stepBy b env (decode T .view) this (later g k w)) e in
-            (rw e (turn-left l fits new read wrote (r .follows) u q (r .put) d step), going-left l fits new read wrote (r .follows) u q (r .put) d step)
+            (rw (e, ending) (turn-left l fits lists read wrote (r .follows) u q (r .put) d step), going-left l fits lists read wrote (r .follows) u q (r .put) d step)

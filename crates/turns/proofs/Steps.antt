@@ -7,6 +7,7 @@ use Prim.Native.Nat.{ℕ, _+_, _<_}
 use native.Mathlib.Omega.{arith}
 use lib.IntN.{ℤ, pos}
 use lib.ListN.{length, getD, set, replicate}
+use Rattle.run_record.specs.declared.Run.{Run}
 use Rattle.model.specs.declared.Turned.{Turned}
 use Rattle.model.specs.declared.Turned.the-variants as turn-answer
 use Rattle.model.specs.Tables.{Tables, heldCount, slots, listIn}
@@ -78,12 +79,12 @@ module _ {noted : Bool} {k : ℕ} {T : Tables} {known : List ℕ} {before after 
 
       -- it is cleared or runs
       pub turn-moves :
-          {status' : List ℕ} {C' : Columns} {seen' written' view' : List ℤ} {settled' known'' : List ℕ} {before'' after'' : List ℤ} {stamp : ℕ} {status'' : List ℕ} {answer : Turned} →
+          {status' : List ℕ} {C' : Columns} {seen' written' view' : List ℤ} {settled' known'' : List ℕ} {before'' after'' : List ℤ} {stamp : ℕ} {status'' : List ℕ} {new : Run} {answer : Turned} →
           (moves : a ≡ act.Stand → ⊥) →
           (s : stamp ≡ getD (T .timestamps) place 0) →
-          (r : Replaced a k (columnsOf T) (T .seen) (T .written) (T .lengths) (T .programs) readers' writers' (T .status) (T .view) status' C' seen' written' view' settled' known'' before'' after'') →
+          (r : Replaced a new k (columnsOf T) (T .seen) (T .written) (T .lengths) (T .programs) readers' writers' (T .status) (T .view) status' C' seen' written' view' settled' known'' before'' after'') →
           (q : status'' ≡ set status' place 1) →
-          answer ≡ answerBy a stamp →
+          answer ≡ answerBy a new stamp →
           let U = leftTables (t .formed) k (t .waits) (d .0) moves s turn-uses r q in (reply answer U ≡ turned T) × (noted ≡ true → Going (k + 1) U known'' before'' after'' readers' writers' settled')
       turn-moves m s r q e = let o = turn-replaced (t .formed) k (t .waits) (d .0) m s turn-uses r q e in (o .0, λ n. o .1)
 

@@ -6,11 +6,13 @@ use mathlib.Core.Option.{some}
 use Prim.Native.Nat.{ℕ, _+_, _<_}
 use lib.IntN.{ℤ}
 use lib.ListN.{length}
+use Rattle.run_record.specs.declared.Run.{Run}
+use Rattle.run_record.specs.Record.{endingOf}
 use Rattle.model.specs.declared.Turned.{Turned}
 use Rattle.model.specs.declared.Turned.the-variants as turn-answer
 use Rattle.model.specs.Tables.{Tables, decode}
 use Rattle.model.specs.Form.{Formed}
-use Rattle.model.specs.Calls.{Reply, stepReply, roundOf}
+use Rattle.model.specs.Calls.{Reply, runAnswer, stepReply, roundOf}
 use Rattle.search.specs.Searches.{isWaiting, waitingIn}
 use Rattle.values.specs.Values.{valuesBelow, Known}
 use Rattle.marking.specs.Uses.{Uses, Noted}
@@ -44,7 +46,8 @@ isStand act.Clear = false
 isStand act.Stand = true
 isStand act.Run = false
 
-abbrev pub answerBy : Act → ℕ → Turned
-answerBy act.Clear t = turn-answer.Cleared t
-answerBy act.Stand t = turn-answer.Stood t
-answerBy act.Run t = turn-answer.Ran t
+-- the answer; where the change ran, by how that run ended
+abbrev pub answerBy : Act → Run → ℕ → Turned
+answerBy act.Clear r t = turn-answer.Cleared t
+answerBy act.Stand r t = turn-answer.Stood t
+answerBy act.Run r t = runAnswer t (endingOf r)

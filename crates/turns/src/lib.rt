@@ -4,6 +4,7 @@ use acts::decide;
 use marking::note_uses;
 use model::Turned;
 use replacement::replace;
+use run_record::Run;
 use search::Found;
 use search::waiting;
 use values::carry_place;
@@ -11,8 +12,9 @@ ghost use mathlib.Core.Path.{_≡_};
 ghost use mathlib.Core.Bool.{true};
 ghost use Prim.Native.Nat.{_+_};
 ghost use lib.ListN.{length};
+ghost use Rattle.run_record.specs.Record.{endingOf};
 ghost use Rattle.model.specs.Tables.{tables, withTurn};
-ghost use Rattle.model.specs.Calls.{reply};
+ghost use Rattle.model.specs.Calls.{runAnswer, reply};
 ghost use Rattle.model.specs.Form.{Formed};
 ghost use Rattle.turns.specs.Turns.{turned, Going, Turnable, isStand, answerBy};
 
@@ -27,14 +29,24 @@ fn stands(act: Act) -> bool
     }
 }
 
+// The answer to a run of the change of a timestamp: it ran, or it faulted at the place where the run broke off.
+fn run_answer(run: Run, timestamp: u64) -> Turned
+    ensures { λ r. ⌜ r ≡ runAnswer timestamp (endingOf run) ⌝ }
+{
+    if run.state < 2 {
+        return Turned::Ran(timestamp);
+    }
+    Turned::Faulted(timestamp, run.place)
+}
+
 // The answer, by what was done with the change of a timestamp.
-fn answer_of(act: Act, timestamp: u64) -> Turned
-    ensures { λ r. ⌜ r ≡ answerBy act timestamp ⌝ }
+fn answer_of(act: Act, run: Run, timestamp: u64) -> Turned
+    ensures { λ r. ⌜ r ≡ answerBy act run timestamp ⌝ }
 {
     match act {
         Act::Clear => Turned::Cleared(timestamp),
         Act::Stand => Turned::Stood(timestamp),
-        Act::Run => Turned::Ran(timestamp),
+        Act::Run => run_answer(run, timestamp),
     }
 }
 
@@ -118,7 +130,7 @@ pub fn turn_at(
         readers,
         writers,
     );
-    replace(
+    let run = replace(
         act,
         k,
         order,
@@ -140,7 +152,7 @@ pub fn turn_at(
         settled,
     );
     status[place] = 1;
-    answer_of(act, timestamp)
+    answer_of(act, run, timestamp)
 }
 
 // One turn: idle, or that of the lowest stamped change that is New or Invalid.

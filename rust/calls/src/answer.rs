@@ -4,8 +4,8 @@
 //! |---|---|
 //! | `done` | `set_up`, `take_in`, `withdraw`, `load` |
 //! | `held` | `take_in`: the same change is already held |
-//! | `idle`, `ran TS`, `stood TS`, `cleared TS` | `turn` |
-//! | `totals RAN STOOD CLEARED` | `drain` |
+//! | `idle`, `ran TS`, `stood TS`, `cleared TS`, `faulted TS PLACE` | `turn`: PLACE is that of the instruction that broke off, counted from 0 |
+//! | `totals RAN STOOD CLEARED FAULTED` | `drain` |
 //! | `value V` | `current`, `value_as_of` |
 //! | `standing STATUS FLAG` | `standing`: 0 New, 1 Valid, 2 Invalid; 1 withdrawn, else 0 |
 //! | `done answers [a, b, ..]` | `take_in_package`: for each entry 0 done, 255 already held, else the refusal |
@@ -17,7 +17,7 @@ use crate::json;
 use crate::script::{Call, Quoted};
 use std::{fmt, fs, io};
 use tolbezun::calls::{self, ANSWERS};
-use tolbezun::{start_values, Refusal, Tables, Taken, Turned, MAX_CAPACITY, SETTINGS};
+use tolbezun::{start_values, Refusal, Tables, Taken, Totals, Turned, MAX_CAPACITY, SETTINGS};
 
 /// A capacity, and the tables that each call is lent.
 pub struct Runner {
@@ -72,8 +72,7 @@ impl Runner {
             } => calls::take_in(n, tables, timestamp, program).map(taken),
             Call::Withdraw { timestamp } => calls::withdraw(n, tables, timestamp).map(done),
             Call::Turn => calls::turn(n, tables).map(turned),
-            Call::Drain => calls::drain(n, tables)
-                .map(|totals| format!("totals {} {} {}", totals.ran, totals.stood, totals.cleared)),
+            Call::Drain => calls::drain(n, tables).map(totals),
             Call::CurrentValue { setting } => calls::current_value(n, tables, setting).map(value),
             Call::ValueAsOf { timestamp, setting } => {
                 calls::value_as_of(n, tables, timestamp, setting).map(value)
@@ -124,7 +123,18 @@ fn turned(turned: Turned) -> String {
         Turned::Ran(timestamp) => format!("ran {timestamp}"),
         Turned::Stood(timestamp) => format!("stood {timestamp}"),
         Turned::Cleared(timestamp) => format!("cleared {timestamp}"),
+        Turned::Faulted(timestamp, place) => format!("faulted {timestamp} {place}"),
     }
+}
+
+fn totals(totals: Totals) -> String {
+    let Totals {
+        ran,
+        stood,
+        cleared,
+        faulted,
+    } = totals;
+    format!("totals {ran} {stood} {cleared} {faulted}")
 }
 
 fn value(value: i32) -> String {

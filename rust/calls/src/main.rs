@@ -25,8 +25,8 @@ line                        answer, where it is not `refused R`
 set_up                      done
 take_in TS HEX              done, held
 withdraw TS                 done
-turn                        idle, ran TS, stood TS, cleared TS
-drain                       totals RAN STOOD CLEARED
+turn                        idle, ran TS, stood TS, cleared TS, faulted TS PLACE
+drain                       totals RAN STOOD CLEARED FAULTED
 current S                   value V
 value_as_of TS S            value V
 standing TS                 standing STATUS FLAG
@@ -37,8 +37,9 @@ tables                      the tables, one line of JSON
 load FILE                   done; FILE has tables as `tables` prints them
 
 TS is a timestamp, S a setting, HEX bytes as pairs of hexadecimal digits, or - for
-none. With lenL an answer slice of L zeros is lent instead of 512. Empty lines and
-lines that start with # are passed over.
+none. PLACE is that of the instruction that broke off, counted from 0. With lenL an
+answer slice of L zeros is lent instead of 512. Empty lines and lines that start
+with # are passed over.
 
 A line that cannot be read ends the run with a message and exit status 1, wrong
 arguments with status 2.

@@ -1,7 +1,7 @@
 //! What turns do, to count it.
 
 use outside::checker::{Turn, Turned};
-use outside::program::{self, Access, SETTINGS};
+use outside::program::{self, Access, Fault, SETTINGS};
 use outside::start::{settings_at_start, start_value};
 use outside::tables::{Status, Tables, INFINITY};
 use std::collections::{BTreeMap, BTreeSet};
@@ -12,11 +12,21 @@ use std::collections::{BTreeMap, BTreeSet};
 pub enum TurnEvent {
     /// Its answer.
     Answered(Turned),
-    /// A New change runs, and an Invalid one.
+    /// A New change runs, and an Invalid one, without a fault.
     RanFirst,
     RanAgain,
-    /// The run faults, after reads.
-    Faulted,
+    /// A New change faults, and an Invalid one.
+    FaultedFirst,
+    FaultedAgain,
+    /// The run faults so, and after reads.
+    Faulted(Fault),
+    FaultedAfterReads,
+    /// An Invalid change that had faulted, by what it had seen, runs without a fault, faults, stands.
+    RanAfterFault,
+    FaultedAfterFault,
+    StoodAfterFault,
+    /// An Invalid change that had not faulted, by what it had seen, faults.
+    FaultedAfterRan,
     /// A change that had written nothing writes, running again.
     WritesSecondTime,
     /// A change that had written faults, running again.
@@ -75,33 +85,51 @@ pub enum DrainEvent {
 pub fn events(before: &Tables, after: &Tables, turn: Turn) -> Vec<TurnEvent> {
     let mut events = vec![TurnEvent::Answered(turn.turned)];
     let place = before.place_of(turn.timestamp).expect("the change is held");
-    let first = before.status(place) == Status::New;
-    let (had_written, writes) = (before.writes[place] > 0, after.writes[place] > 0);
-    match turn.turned {
-        Turned::Ran => {
-            let faulted = faults(after, place);
-            events.push(match first {
-                true => TurnEvent::RanFirst,
-                false => TurnEvent::RanAgain,
-            });
-            if faulted && after.reads[place] > 0 {
-                events.push(TurnEvent::Faulted);
-            }
-            if !first && !had_written && writes {
-                events.push(TurnEvent::WritesSecondTime);
-            }
-            if faulted && had_written {
-                events.push(TurnEvent::FaultsSecondTime);
-            }
-        }
-        Turned::Cleared if first => events.push(TurnEvent::ClearedNew),
-        Turned::Cleared if had_written => events.push(TurnEvent::ClearedWriter),
-        Turned::Cleared | Turned::Stood => {}
-    }
+    let possible = at_change(before, after, place, turn.turned).into_iter();
+    events.extend(possible.filter_map(|(happened, event)| happened.then_some(event)));
     for touched in touched(before, after, turn) {
         touched.events(&mut events, before, after);
     }
     events
+}
+
+/// What the turn of the change at this place may do with it, and whether it does.
+fn at_change(
+    before: &Tables,
+    after: &Tables,
+    place: usize,
+    turned: Turned,
+) -> Vec<(bool, TurnEvent)> {
+    let first = before.status(place) == Status::New;
+    let again = !first;
+    let had_faulted = again && fault(before, place).is_some();
+    let had_written = before.writes[place] > 0;
+    let writes_now = !had_written && after.writes[place] > 0;
+    match turned {
+        Turned::Ran => vec![
+            (first, TurnEvent::RanFirst),
+            (again, TurnEvent::RanAgain),
+            (had_faulted, TurnEvent::RanAfterFault),
+            (again && writes_now, TurnEvent::WritesSecondTime),
+        ],
+        Turned::Faulted(_) => {
+            let fault = fault(after, place).expect("its run is one that faults");
+            vec![
+                (first, TurnEvent::FaultedFirst),
+                (again, TurnEvent::FaultedAgain),
+                (true, TurnEvent::Faulted(fault)),
+                (after.reads[place] > 0, TurnEvent::FaultedAfterReads),
+                (had_faulted, TurnEvent::FaultedAfterFault),
+                (again && !had_faulted, TurnEvent::FaultedAfterRan),
+                (had_written, TurnEvent::FaultsSecondTime),
+            ]
+        }
+        Turned::Stood => vec![(had_faulted, TurnEvent::StoodAfterFault)],
+        Turned::Cleared => vec![
+            (first, TurnEvent::ClearedNew),
+            (had_written, TurnEvent::ClearedWriter),
+        ],
+    }
 }
 
 /// A setting that the change of a turn had written or writes.
@@ -314,14 +342,14 @@ fn previous_value(tables: &Tables, timestamp: u64, setting: u16) -> i32 {
     highest.map_or_else(|| start_value(setting.into()), |(_, value)| value)
 }
 
-/// Whether the run that left this read list faulted. Settings that it did not read do not matter.
-fn faults(tables: &Tables, place: usize) -> bool {
+/// The fault of the run that left this read list. Settings that it did not read do not matter.
+fn fault(tables: &Tables, place: usize) -> Option<Fault> {
     let mut settings = [0; SETTINGS];
     for read in tables.read_list(place) {
         settings[usize::from(read.setting)] = read.value;
     }
     let outcome = program::run(tables.program(place), &settings);
-    outcome.fault().is_some()
+    outcome.fault().map(|(fault, _)| fault)
 }
 
 fn names(mut list: impl Iterator<Item = Access>, setting: u16) -> bool {

@@ -12,6 +12,7 @@ use comparison::turns::{self, DrainEvent, TurnEvent};
 use outside::checker::{Totals, Turned};
 use outside::intake::Taken;
 use outside::package::ANSWERS;
+use outside::program::{Fault, MAX_INSTRUCTIONS};
 use outside::tables::{in_form, INFINITY, LIST_ENTRIES, MAX_CAPACITY};
 
 /// How many tables with lists unrelated to their programs are drained.
@@ -75,7 +76,7 @@ fn drain(both: Both, reached: &mut Reached<Event>) {
     for event in turns.left(single.tables()) {
         reached.count(Event::Drain(event));
     }
-    let turned = totals.ran + totals.stood + totals.cleared;
+    let turned = totals.ran + totals.stood + totals.cleared + totals.faulted;
     reached.count(match turned {
         0 => Event::Idle,
         _ => Event::Waiting,
@@ -120,7 +121,11 @@ fn turns_and_drains_leave_the_same_tables() {
         Event::Idle,
         Event::Turn(TurnEvent::RanFirst),
         Event::Turn(TurnEvent::RanAgain),
-        Event::Turn(TurnEvent::Faulted),
+        Event::Turn(TurnEvent::FaultedFirst),
+        Event::Turn(TurnEvent::FaultedAgain),
+        Event::Turn(TurnEvent::Faulted(Fault::ReadOfWritten)),
+        Event::Turn(TurnEvent::Faulted(Fault::WrittenTwice)),
+        Event::Turn(TurnEvent::FaultedAfterReads),
         Event::Turn(TurnEvent::WritesSecondTime),
         Event::Turn(TurnEvent::FaultsSecondTime),
         Event::Turn(TurnEvent::ClearedNew),
@@ -142,6 +147,17 @@ fn turns_and_drains_leave_the_same_tables() {
     }
     for event in SUBTLE {
         reached.assert_at_least(TABLES / 300, event);
+    }
+    let highest = Turned::Faulted(MAX_INSTRUCTIONS - 1);
+    for event in [
+        TurnEvent::Faulted(Fault::NoSuchSetting),
+        TurnEvent::Answered(highest),
+        TurnEvent::RanAfterFault,
+        TurnEvent::FaultedAfterFault,
+        TurnEvent::StoodAfterFault,
+        TurnEvent::FaultedAfterRan,
+    ] {
+        reached.assert_at_least(TABLES / 300, Event::Turn(event));
     }
 }
 

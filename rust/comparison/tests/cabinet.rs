@@ -103,8 +103,9 @@ fn input_may_come_in_pieces() {
 
 #[test]
 fn random_packages_are_listed() {
-    let [turns, cleared, settings, untagged, full] = with_seeds(|random, share| {
-        let [mut turns, mut cleared, mut settings, mut untagged, mut full] = [0; 5];
+    let [turns, faulted, cleared, settings, untagged, full] = with_seeds(|random, share| {
+        let [mut turns, mut faulted, mut cleared] = [0; 3];
+        let [mut settings, mut untagged, mut full] = [0; 3];
         for index in 0..share.of(PACKAGES) {
             let mut entries = packages::entries(random, &[]);
             if index % 2 == 0 {
@@ -119,16 +120,17 @@ fn random_packages_are_listed() {
             let written = assert_listed(&lay_out(&entries));
             let lines = |text: &str| written.lines().filter(|line| line.contains(text)).count();
             turns += lines(" ran");
+            faulted += lines(" faulted ");
             cleared += lines(" cleared");
             settings += lines("setting ");
             untagged += written.lines().filter(|line| is_untagged_0(line)).count();
             full += lines(" refused 9");
         }
-        [turns, cleared, settings, untagged, full]
+        [turns, faulted, cleared, settings, untagged, full]
     });
-    println!("{turns} ran, {cleared} cleared, {settings} settings, {full} refused 9");
-    println!("{untagged} untagged VLANs at 0");
-    for count in [turns, cleared, settings, full] {
+    println!("{turns} ran, {faulted} faulted, {cleared} cleared");
+    println!("{settings} settings, {untagged} untagged VLANs at 0, {full} refused 9");
+    for count in [turns, faulted, cleared, settings, full] {
         assert!(count >= PACKAGES / 4, "{count}");
     }
     assert!(untagged >= PACKAGES / 20, "{untagged}");
@@ -142,6 +144,38 @@ fn is_untagged_0(line: &str) -> bool {
     };
     let setting: usize = setting.parse().expect("it is a number");
     setting % 16 == 2
+}
+
+/// "`turn 10 faulted 2` where the third instruction broke off" (document 02, R-2), and other places.
+#[test]
+fn turns_that_fault_are_listed_with_the_place() {
+    let set = |count: i32| (0..count).flat_map(|index| program(op::CONSTANT, index, 100 + index));
+    let entries = [
+        (u64::MAX - 1, set(1).chain(program(op::CONSTANT, 7, 100))),
+        (13, set(15).chain(program(op::CONSTANT, 7, 114))),
+        (12, set(5).chain(program(op::READ, 104, 200))),
+        (11, set(3).chain(program(op::READ, 300, 301))),
+        (10, set(1).chain(program(op::READ, 100, 200))),
+    ];
+    let entries = entries.map(|(timestamp, program)| Entry::Change {
+        timestamp,
+        program: program.collect(),
+    });
+    let expected = "\
+entry 0 taken
+entry 1 taken
+entry 2 taken
+entry 3 taken
+entry 4 taken
+turn 10 faulted 2
+turn 11 ran
+turn 12 faulted 10
+turn 13 faulted 31
+turn 18446744073709551614 faulted 3
+setting 101 1
+setting 102 2
+";
+    assert_eq!(assert_listed(&lay_out(&entries)), expected);
 }
 
 /// Settings at 0 and at 1, which some start at.

@@ -11,10 +11,10 @@ use comparison::seeds::{count_reached, with_seeds};
 use comparison::turns::{self, TurnEvent};
 use outside::book::{self, LoggedTurn};
 use outside::calls::plain_run;
-use outside::checker::Turned;
+use outside::checker::{Turn, Turned};
 use outside::intake::Taken;
 use outside::package::{entries, Entry, ALREADY_HELD, ANSWERS, DONE};
-use outside::program::SETTINGS;
+use outside::program::{op, Fault, Instruction, MAX_INSTRUCTIONS, SETTINGS};
 use outside::tables::{Status, Tables, MAX_CAPACITY};
 
 /// The highest capacity of the tables of most lists. Each capacity from 1 on has as many lists.
@@ -25,6 +25,10 @@ const SCRIPTS: usize = 40 * CAPACITIES;
 
 /// How many lists of calls are made on the proved library alone.
 const SCRIPTS_ALONE: usize = 16 * CAPACITIES;
+
+/// The lowest place of an instruction that can fault. Before the first one every register names
+/// setting 0 and nothing is written.
+const LOWEST_FAULT: usize = 1;
 
 /// What the lists of calls are to reach.
 #[derive(Clone, Copy, Debug, PartialEq, Eq, PartialOrd, Ord)]
@@ -184,6 +188,30 @@ impl Script {
     }
 }
 
+/// Chosen lists of calls.
+impl Script {
+    /// Takes in a change, which must be answered done.
+    fn take_in(&mut self, timestamp: u64, program: &[Instruction], reached: &mut Reached<Event>) {
+        let program = program.iter().flat_map(|i| i.to_bytes()).collect();
+        self.make(Call::TakeIn { timestamp, program }, reached);
+        let held = self.both.tables().place_of(timestamp);
+        assert!(held.is_some(), "{timestamp} is taken in");
+    }
+
+    /// Drains as [`Self::drain`] does, and panics unless these are the turns.
+    #[track_caller]
+    fn assert_drains(&mut self, expected: &[(u64, Turned)], reached: &mut Reached<Event>) {
+        self.drain(reached);
+        let Some(book::Call::Drain(Some((_, turns)))) = self.calls.last() else {
+            panic!("the last call is an answered drain");
+        };
+        let turns = turns.iter().map(|logged| logged.turn);
+        let expected = expected.iter();
+        let expected = expected.map(|&(timestamp, turned)| Turn { timestamp, turned });
+        assert_eq!(turns.collect::<Vec<_>>(), expected.collect::<Vec<_>>());
+    }
+}
+
 /// A turn on both, with what the book needs of it.
 fn logged_turn(both: &mut Both, reached: &mut Reached<Event>) -> Option<LoggedTurn> {
     let before = both.tables().clone();
@@ -293,7 +321,18 @@ fn lists_of_calls_have_the_same_answers_and_tables_and_meet_demand_3() {
         Event::SetUp,
         Event::Withdrawn(Status::Invalid),
         Event::Turn(TurnEvent::Answered(Turned::Stood)),
-        Event::Turn(TurnEvent::Faulted),
+        Event::Turn(TurnEvent::FaultedFirst),
+        Event::Turn(TurnEvent::FaultedAgain),
+        Event::Turn(TurnEvent::Faulted(Fault::NoSuchSetting)),
+        Event::Turn(TurnEvent::Faulted(Fault::ReadOfWritten)),
+        Event::Turn(TurnEvent::Faulted(Fault::WrittenTwice)),
+        Event::Turn(TurnEvent::FaultedAfterReads),
+        Event::Turn(TurnEvent::RanAfterFault),
+        Event::Turn(TurnEvent::FaultedAfterFault),
+        Event::Turn(TurnEvent::StoodAfterFault),
+        Event::Turn(TurnEvent::FaultedAfterRan),
+        Event::Turn(TurnEvent::Answered(Turned::Faulted(LOWEST_FAULT))),
+        Event::Turn(TurnEvent::Answered(Turned::Faulted(MAX_INSTRUCTIONS - 1))),
         Event::Turn(TurnEvent::WritesSecondTime),
         Event::Turn(TurnEvent::FaultsSecondTime),
         Event::Turn(TurnEvent::ClearedNew),
@@ -470,4 +509,109 @@ fn lists_of_calls_at_capacity_4096_have_the_same_answers_and_tables_and_meet_dem
     reached.assert_at_least(HELD.len(), Event::Drained);
     reached.assert_at_least(400, Event::Turn(TurnEvent::RanFirst));
     reached.assert_at_least(5, Event::Turn(TurnEvent::RanAgain));
+}
+
+/// The setting that names another one in chosen programs, and the setting that they write.
+const NAMES: i32 = 36;
+const WRITTEN: i32 = 40;
+
+/// A program that writes [`WRITTEN`], at place 1, unless the place is that one, and reads or writes at
+/// this place what [`NAMES`] names.
+fn named_at(place: usize, op: u8) -> [Instruction; MAX_INSTRUCTIONS] {
+    let instruction = |op, a, n| Instruction {
+        op,
+        a,
+        n,
+        ..Instruction::default()
+    };
+    let mut program = [instruction(op::CONSTANT, 7, 0); MAX_INSTRUCTIONS];
+    program[0] = instruction(op::READ, 0, NAMES);
+    program[1] = instruction(op::WRITE, 7, WRITTEN);
+    program[place] = instruction(op, 7, 0);
+    program
+}
+
+/// A program that sets [`NAMES`].
+fn name(n: i32) -> [Instruction; 2] {
+    let [constant, write] = [(op::CONSTANT, n), (op::WRITE, NAMES)];
+    [constant, write].map(|(op, n)| Instruction {
+        op,
+        n,
+        ..Instruction::default()
+    })
+}
+
+/// Change 100 runs for the first time and six times more, as late changes say.
+#[test]
+fn faults_at_every_place_are_shown() {
+    let mut reached = Reached::default();
+    for place in LOWEST_FAULT..MAX_INSTRUCTIONS {
+        for op in [op::READ_INDEXED, op::WRITE_INDEXED] {
+            let mut script = Script::new(8);
+            script.take_in(100, &named_at(place, op), &mut reached);
+            let named = [-1, 41, 1024, WRITTEN, 41, WRITTEN, i32::MIN];
+            for (timestamp, named) in (1..).zip(named) {
+                let turned = match named {
+                    41 => Turned::Ran,
+                    WRITTEN if place == 1 => Turned::Ran,
+                    _ => Turned::Faulted(place),
+                };
+                script.take_in(timestamp, &name(named), &mut reached);
+                let turns = [(timestamp, Turned::Ran), (100, turned)];
+                script.assert_drains(&turns, &mut reached);
+            }
+        }
+    }
+    let places = MAX_INSTRUCTIONS - LOWEST_FAULT;
+    for event in [
+        TurnEvent::FaultedFirst,
+        TurnEvent::FaultedAgain,
+        TurnEvent::RanAfterFault,
+        TurnEvent::FaultedAfterRan,
+        TurnEvent::Faulted(Fault::NoSuchSetting),
+    ] {
+        reached.assert_at_least(2 * places, Event::Turn(event));
+    }
+    // At place 1 nothing is written before.
+    for event in [
+        TurnEvent::FaultedAfterFault,
+        TurnEvent::Faulted(Fault::ReadOfWritten),
+        TurnEvent::Faulted(Fault::WrittenTwice),
+    ] {
+        reached.assert_at_least(2 * (places - 1), Event::Turn(event));
+    }
+}
+
+#[test]
+fn no_operation_faults_at_place_0() {
+    let mut reached = Reached::default();
+    let mut script = Script::new(usize::from(op::COUNT));
+    for op in 0..op::COUNT {
+        let timestamp = 1 + u64::from(op);
+        let program = Instruction {
+            op,
+            ..Instruction::default()
+        };
+        script.take_in(timestamp, &[program], &mut reached);
+        script.assert_drains(&[(timestamp, Turned::Ran)], &mut reached);
+    }
+}
+
+#[test]
+fn a_change_that_faulted_stands_and_is_cleared() {
+    let mut reached = Reached::default();
+    let mut script = Script::new(4);
+    let faulted = Turned::Faulted(MAX_INSTRUCTIONS - 1);
+    let program = named_at(MAX_INSTRUCTIONS - 1, op::WRITE_INDEXED);
+    script.take_in(100, &program, &mut reached);
+    script.take_in(1, &name(-1), &mut reached);
+    script.assert_drains(&[(1, Turned::Ran), (100, faulted)], &mut reached);
+    // 2 marks it, and 3 lets it stand.
+    script.take_in(2, &name(41), &mut reached);
+    script.make(Call::Turn, &mut reached);
+    script.take_in(3, &name(-1), &mut reached);
+    script.assert_drains(&[(3, Turned::Ran), (100, Turned::Stood)], &mut reached);
+    reached.assert_at_least(1, Event::Turn(TurnEvent::StoodAfterFault));
+    script.make(Call::Withdraw { timestamp: 100 }, &mut reached);
+    script.assert_drains(&[(100, Turned::Cleared)], &mut reached);
 }

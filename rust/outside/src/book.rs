@@ -1,8 +1,9 @@
 //! Demand 3: the book, the fresh run, and what is claimed of the tables and of the turns after a
 //! drain.
 //!
-//! Document 01, "Demand 3 spelled out". Nothing here uses the Checker: it looks at calls as they
-//! were made and answered, by whatever implementation, and at the tables that they left.
+//! Document 01, "Demand 3 spelled out", and document 02, R-2. Nothing here uses the Checker: it looks
+//! at calls as they were made and answered, by whatever implementation, and at the tables that they
+//! left.
 
 use crate::checker::{Totals, Turn, Turned};
 use crate::package::{entries, Entry, DONE};
@@ -77,7 +78,8 @@ pub enum Breach {
     Writes(u64),
     /// "each of the 1,024 entries of the view is that setting at the fresh run's end": a setting.
     View(usize),
-    /// A drain "returns how many ran, stood and were cleared".
+    /// A drain "returns how many ran, stood and were cleared", and "faulted as a fourth total, no
+    /// longer within ran" (document 02, R-2).
     Totals,
     /// A turn of the last drain names a timestamp that is not in the book.
     NotBooked(u64),
@@ -86,10 +88,13 @@ pub enum Breach {
     /// A change is run again in the last drain although every setting that it had read holds, in
     /// the fresh run just before it, the value it saw.
     RunInVain(u64),
+    /// The last turn that ran a change, which is not withdrawn, does not answer what the fresh run
+    /// says of it: ran, or faulted with the place.
+    FaultsShown(u64),
 }
 
-/// Checks demand 3 for a list of calls that begins on tables just set up, and the tables that it
-/// left, which must be in form.
+/// Checks demand 3, and that faults are shown, for a list of calls that begins on tables just set up,
+/// and the tables that it left, which must be in form.
 pub fn check(calls: &[Call], tables: &Tables) -> Result<(), Breach> {
     let Some((Call::Drain(Some((totals, turns))), earlier)) = calls.split_last() else {
         return Err(Breach::NotDrained);
@@ -98,7 +103,8 @@ pub fn check(calls: &[Call], tables: &Tables) -> Result<(), Breach> {
     fresh.check_tables(tables)?;
     check_totals(*totals, turns)?;
     check_one_turn_each(turns, &fresh)?;
-    check_none_in_vain(earlier, turns, &fresh)
+    check_none_in_vain(earlier, turns, &fresh)?;
+    check_faults_shown(calls, &fresh)
 }
 
 /// "The book is kept from the calls' arguments and answers alone and starts empty."
@@ -171,6 +177,7 @@ impl Book {
                 before: settings,
                 reads: Vec::new(),
                 writes: Vec::new(),
+                answer: None,
             };
             // "A withdrawn change is passed over; its lists are empty. Any other is run by its
             // instructions on those settings as they then stand."
@@ -178,6 +185,7 @@ impl Book {
                 let outcome = program::run(&booked.program, &settings);
                 fresh.reads = outcome.reads().to_vec();
                 fresh.writes = outcome.writes().to_vec();
+                fresh.answer = Some(Turned::by_run(&outcome));
             }
             // "Its writes are then carried into the settings."
             for write in &fresh.writes {
@@ -202,6 +210,8 @@ struct Fresh {
     before: [i32; SETTINGS],
     reads: Vec<Access>,
     writes: Vec<Access>,
+    /// What a turn with its run answers, or none where it is withdrawn.
+    answer: Option<Turned>,
 }
 
 impl FreshRun {
@@ -255,33 +265,56 @@ fn check_one_turn_each(turns: &[LoggedTurn], fresh: &FreshRun) -> Result<(), Bre
 /// "A turn of that drain runs its change again if it answers ran and an earlier turn in the list,
 /// single or a drain's, ran that change and replaced its lists. What the change had read and saw is
 /// the read list and seen values that the last such earlier turn put there."
+///
+/// "A needless rerun that faults stays ruled out like any other." (document 02, R-2): here a turn
+/// that answers faulted is as one that answers ran.
 fn check_none_in_vain(
     earlier: &[Call],
     turns: &[LoggedTurn],
     fresh: &FreshRun,
 ) -> Result<(), Breach> {
-    let earlier = earlier.iter().flat_map(|call| match call {
-        Call::Turn(turn) => turn.as_slice(),
-        Call::Drain(Some((_, turns))) => turns,
-        _ => &[],
-    });
-    let ran = |logged: &&LoggedTurn| logged.turn.turned == Turned::Ran;
-    let mut had_read: BTreeMap<u64, &[Access]> = BTreeMap::new();
-    for logged in earlier.filter(ran) {
-        had_read.insert(logged.turn.timestamp, &logged.reads);
-    }
-    for logged in turns.iter().filter(ran) {
+    let last_runs = last_runs(earlier);
+    for logged in turns.iter().filter(|logged| logged.turn.turned.is_run()) {
         let timestamp = logged.turn.timestamp;
         let before = &fresh.changes[&timestamp].before;
         let holds = |read: &Access| before[usize::from(read.setting)] == read.value;
-        if had_read
+        if last_runs
             .get(&timestamp)
-            .is_some_and(|reads| reads.iter().all(holds))
+            .is_some_and(|earlier| earlier.reads.iter().all(holds))
         {
             return Err(Breach::RunInVain(timestamp));
         }
     }
     Ok(())
+}
+
+/// "A run now also says whether it faulted and at which place. A turn answers faulted with the place
+/// instead of ran in that case" (document 02, R-2). So the last turn that ran a held change answers
+/// what the fresh run says of it. A change that is not withdrawn has had such a turn, since it came
+/// in New.
+fn check_faults_shown(calls: &[Call], fresh: &FreshRun) -> Result<(), Breach> {
+    let last_runs = last_runs(calls);
+    for (timestamp, change) in &fresh.changes {
+        let answered = last_runs.get(timestamp).map(|logged| logged.turn.turned);
+        if change.answer.is_some() && answered != change.answer {
+            return Err(Breach::FaultsShown(*timestamp));
+        }
+    }
+    Ok(())
+}
+
+/// The last turn of these calls, "single or a drain's", that ran each change, by timestamp.
+fn last_runs(calls: &[Call]) -> BTreeMap<u64, &LoggedTurn> {
+    let turns = calls.iter().flat_map(|call| match call {
+        Call::Turn(turn) => turn.as_slice(),
+        Call::Drain(Some((_, turns))) => turns,
+        _ => &[],
+    });
+    let mut last_runs = BTreeMap::new();
+    for logged in turns.filter(|logged| logged.turn.turned.is_run()) {
+        last_runs.insert(logged.turn.timestamp, logged);
+    }
+    last_runs
 }
 
 #[cfg(test)]

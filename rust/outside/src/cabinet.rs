@@ -15,8 +15,9 @@ pub const CAPACITY: usize = 128;
 ///
 /// "Entry lines give the index in the contents and taken, held, withdrawn or refused with the
 /// number. Then come the turns of one drain by timestamp, then settings", rising, with values: "The
-/// program lists settings that differ from their start" (document 02, R-1). "A bad package gives
-/// only `package refused 3`."
+/// program lists settings that differ from their start" (document 02, R-1). Faulted "with the place
+/// instead of ran" stands in the listing too: "`turn 10 faulted 2` where the third instruction broke
+/// off" (document 02, R-2). "A bad package gives only `package refused 3`."
 pub fn listing(input: &[u8]) -> String {
     let mut tables = Tables::new(CAPACITY);
     let mut answers = [0; ANSWERS];
@@ -38,12 +39,15 @@ pub fn listing(input: &[u8]) -> String {
         }
     }
     while let Some(turn) = turn(CAPACITY, &mut tables).expect("the tables are in form") {
-        let word = match turn.turned {
-            Turned::Ran => "ran",
-            Turned::Stood => "stood",
-            Turned::Cleared => "cleared",
-        };
-        lines.push(format_args!("turn {} {word}", turn.timestamp));
+        let timestamp = turn.timestamp;
+        match turn.turned {
+            Turned::Ran => lines.push(format_args!("turn {timestamp} ran")),
+            Turned::Stood => lines.push(format_args!("turn {timestamp} stood")),
+            Turned::Cleared => lines.push(format_args!("turn {timestamp} cleared")),
+            Turned::Faulted(place) => {
+                lines.push(format_args!("turn {timestamp} faulted {place}"));
+            }
+        }
     }
     for (setting, &value) in tables.view.iter().enumerate() {
         if value != start_value(setting) {

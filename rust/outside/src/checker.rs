@@ -1,10 +1,10 @@
 //! The Checker: the calls turn and drain.
 //!
 //! Figure 1 of source document 004, whose names and comments stand in the code, with what document
-//! 01, "A turn", adds.
+//! 01, "A turn", and document 02, R-2, add.
 
 use crate::calls::{check, Refusal};
-use crate::program::{self, Access, SETTINGS};
+use crate::program::{self, Access, Outcome, SETTINGS};
 use crate::start::{settings_at_start, start_value};
 use crate::tables::{Status, Tables, INFINITY};
 use std::collections::{BTreeMap, BTreeSet};
@@ -12,12 +12,31 @@ use std::collections::{BTreeMap, BTreeSet};
 /// What a turn did with its change.
 #[derive(Clone, Copy, Debug, PartialEq, Eq, PartialOrd, Ord)]
 pub enum Turned {
-    /// It ran the change, whether the run faulted or not.
+    /// It ran the change, and the run did not fault.
     Ran,
     /// "each seen value equals the value as of its timestamp: it becomes Valid".
     Stood,
     /// The change is withdrawn: "both new lists are empty".
     Cleared,
+    /// It ran the change, and the run faulted at this place, counted from 0: "A turn answers faulted
+    /// with the place instead of ran in that case" (document 02, R-2).
+    Faulted(usize),
+}
+
+impl Turned {
+    /// The answer of a turn with this run: "A run now also says whether it faulted and at which
+    /// place." (document 02, R-2)
+    pub(crate) fn by_run(outcome: &Outcome) -> Self {
+        match outcome.fault() {
+            None => Self::Ran,
+            Some((_, place)) => Self::Faulted(place),
+        }
+    }
+
+    /// Whether the turn ran its change, to a fault or not.
+    pub fn is_run(self) -> bool {
+        matches!(self, Self::Ran | Self::Faulted(_))
+    }
 }
 
 /// A turn's answer, where it is neither idle nor refused: it "also names that change's timestamp".
@@ -28,13 +47,15 @@ pub struct Turn {
     pub turned: Turned,
 }
 
-/// A drain's answer: "how many ran, stood and were cleared".
+/// A drain's answer: "how many ran, stood and were cleared", and "faulted as a fourth total, no
+/// longer within ran" (document 02, R-2).
 #[derive(Clone, Copy, Debug, Default, PartialEq, Eq)]
 #[allow(missing_docs)]
 pub struct Totals {
     pub ran: u64,
     pub stood: u64,
     pub cleared: u64,
+    pub faulted: u64,
 }
 
 impl Totals {
@@ -44,6 +65,7 @@ impl Totals {
             Turned::Ran => &mut self.ran,
             Turned::Stood => &mut self.stood,
             Turned::Cleared => &mut self.cleared,
+            Turned::Faulted(_) => &mut self.faulted,
         } += 1;
     }
 }
@@ -57,7 +79,8 @@ pub fn turn(n: usize, tables: &mut Tables) -> Result<Option<Turn>, Refusal> {
     Ok(turn)
 }
 
-/// "A drain makes turns until idle and returns how many ran, stood and were cleared."
+/// "A drain makes turns until idle and returns how many ran, stood and were cleared." And it "returns
+/// faulted as a fourth total" (document 02, R-2).
 pub fn drain(n: usize, tables: &mut Tables) -> Result<Totals, Refusal> {
     check(n, tables)?;
     let mut history = History::of(tables);
@@ -194,7 +217,7 @@ impl History {
             // execute update T
             let outcome = program::run(&update.program, &self.values_upto(t));
             self.install(t, outcome.reads().to_vec(), outcome.writes().to_vec());
-            Turned::Ran
+            Turned::by_run(&outcome)
         };
         Some(Turn {
             timestamp: t,

@@ -152,7 +152,7 @@ pub fn check(program: &[u8]) -> Result<(), Malformed> {
 }
 
 /// Why a run breaks off.
-#[derive(Clone, Copy, Debug, PartialEq, Eq)]
+#[derive(Clone, Copy, Debug, PartialEq, Eq, PartialOrd, Ord)]
 pub enum Fault {
     /// "A run faults when a register names a setting outside 0 to 1,023".
     NoSuchSetting,

@@ -104,12 +104,15 @@ impl fmt::Display for Taken {
 pub enum Turned {
     /// No change is New or Invalid.
     Idle,
-    /// The change was run on the values as of its timestamp.
+    /// The change was run on the values as of its timestamp, and the run went through.
     Ran(u64),
     /// What the change had seen still holds.
     Stood(u64),
     /// The change is withdrawn; its lists are empty now.
     Cleared(u64),
+    /// The change was run, and the run broke off at the instruction of this place, counted from 0: it
+    /// writes nothing.
+    Faulted(u64, usize),
 }
 
 impl fmt::Display for Turned {
@@ -119,17 +122,19 @@ impl fmt::Display for Turned {
             Self::Ran(timestamp) => write!(f, "{timestamp} ran"),
             Self::Stood(timestamp) => write!(f, "{timestamp} stood"),
             Self::Cleared(timestamp) => write!(f, "{timestamp} was cleared"),
+            Self::Faulted(timestamp, place) => write!(f, "{timestamp} faulted at place {place}"),
         }
     }
 }
 
-/// How many turns of a drain ran, stood and were cleared.
+/// How many turns of a drain ran, stood, were cleared and faulted.
 #[derive(Clone, Copy, Debug, Default, PartialEq, Eq, PartialOrd, Ord, Hash)]
 #[allow(missing_docs)]
 pub struct Totals {
     pub ran: u64,
     pub stood: u64,
     pub cleared: u64,
+    pub faulted: u64,
 }
 
 impl fmt::Display for Totals {
@@ -138,8 +143,12 @@ impl fmt::Display for Totals {
             ran,
             stood,
             cleared,
+            faulted,
         } = self;
-        write!(f, "{ran} ran, {stood} stood, {cleared} cleared")
+        write!(
+            f,
+            "{ran} ran, {stood} stood, {cleared} cleared, {faulted} faulted"
+        )
     }
 }
 

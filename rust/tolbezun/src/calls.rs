@@ -125,33 +125,36 @@ pub fn entry_answer(byte: u8) -> Result<Taken, Refusal> {
 
 /// Makes a turn: status, both lists of the change whose turn it is, view.
 pub fn turn(n: usize, tables: &mut Tables) -> Result<Turned, Refusal> {
-    let mut slot = [0];
-    let (stamp, length) = (slot.as_mut_ptr(), slot.len());
+    let mut slots = [0; 2];
+    let (values, length) = (slots.as_mut_ptr(), slots.len());
     // SAFETY: pointers and lengths are those of distinct vectors and of an array, which may be
     // written, and nothing more is required.
-    let answer = unsafe { call!(tolbezun_turn(n, tables.as_mut_ptr(), stamp, length)) };
-    let [timestamp] = slot;
+    let answer = unsafe { call!(tolbezun_turn(n, tables.as_mut_ptr(), values, length)) };
+    let [timestamp, place] = slots;
     match answer {
         0 => Ok(Turned::Idle),
         1 => Ok(Turned::Ran(timestamp)),
         2 => Ok(Turned::Stood(timestamp)),
         3 => Ok(Turned::Cleared(timestamp)),
+        // A place is below 32.
+        4 => Ok(Turned::Faulted(timestamp, place as usize)),
         _ => Err(refusal(i64::from(answer) - 16)),
     }
 }
 
 /// Makes turns until one is idle: what turns alter.
 pub fn drain(n: usize, tables: &mut Tables) -> Result<Totals, Refusal> {
-    let mut slots = [0; 3];
+    let mut slots = [0; 4];
     let (totals, length) = (slots.as_mut_ptr(), slots.len());
     // SAFETY: pointers and lengths are those of distinct vectors and of an array, which may be
     // written, and nothing more is required.
     done(unsafe { call!(tolbezun_drain(n, tables.as_mut_ptr(), totals, length)) })?;
-    let [ran, stood, cleared] = slots;
+    let [ran, stood, cleared, faulted] = slots;
     Ok(Totals {
         ran,
         stood,
         cleared,
+        faulted,
     })
 }
 

@@ -22,9 +22,9 @@
 //! It prints
 //!
 //! ```text
-//! 10 gives 400, 30 takes 300: 2 ran, 0 stood, 0 cleared; power left 100, alarm 0
-//! 20 takes 200, late: 2 ran, 0 stood, 0 cleared; power left -100, alarm 1
-//! 20 is withdrawn: 1 ran, 0 stood, 1 cleared; power left 100, alarm 0
+//! 10 gives 400, 30 takes 300: 2 ran, 0 stood, 0 cleared, 0 faulted; power left 100, alarm 0
+//! 20 takes 200, late: 2 ran, 0 stood, 0 cleared, 0 faulted; power left -100, alarm 1
+//! 20 is withdrawn: 1 ran, 0 stood, 1 cleared, 0 faulted; power left 100, alarm 0
 //! refused 8: the timestamp is held with another program
 //! ```
 

@@ -83,7 +83,7 @@ declare! {
         answers_len: usize
     ) -> u8;
 
-    fn tolbezun_turn(tables: *mut, timestamp: *mut u64, timestamp_len: usize) -> u8;
+    fn tolbezun_turn(tables: *mut, values: *mut u64, values_len: usize) -> u8;
 
     fn tolbezun_drain(tables: *mut, totals: *mut u64, totals_len: usize) -> u8;
 

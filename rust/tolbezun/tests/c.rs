@@ -55,9 +55,9 @@ fn the_header_is_c_plus_plus_too() {
 #[test]
 fn the_example_shows_the_power_left() {
     let expected = "\
-10 gives 400, 30 takes 300: 2 ran, 0 stood, 0 cleared; power left 100, alarm 0
-20 takes 200, late: 2 ran, 0 stood, 0 cleared; power left -100, alarm 1
-20 is withdrawn: 1 ran, 0 stood, 1 cleared; power left 100, alarm 0
+10 gives 400, 30 takes 300: 2 ran, 0 stood, 0 cleared, 0 faulted; power left 100, alarm 0
+20 takes 200, late: 2 ran, 0 stood, 0 cleared, 0 faulted; power left -100, alarm 1
+20 is withdrawn: 1 ran, 0 stood, 1 cleared, 0 faulted; power left 100, alarm 0
 ";
     assert_eq!(run(&root().join("examples/power.c")), expected);
 }
@@ -69,14 +69,15 @@ fn edges_are_as_the_header_says() {
 set_up 1 1 0
 nothing lent 1 1
 take_in 0 255 8 0 9 4 6 7
-turn 17 77 77
-turn 17 77 77
-turn 1 1 77
-turn 1 18446744073709551614 77
-turn 0 78 77
-drain 1 77 77 77
-drain 1 77 77 77
-drain 0 0 0 0
+turn 17 77 77 77
+turn 17 77 77 77
+turn 17 77 77 77
+turn 1 1 77 77
+turn 1 18446744073709551614 77 77
+turn 0 78 77 77
+drain 1 77 77 77 77 77
+drain 1 77 77 77 77 77
+drain 0 0 0 0 0 77
 current_value -5 4294967301 4294967297
 value_as_of -5 0 4294967300
 withdraw 0 11 10
@@ -84,6 +85,14 @@ standing 258 1 65546
 take_in_package 1 1 3 0: 10 99
 plain_run 1 99 0: 0 -5 99
 start_values 1 1 99 0: 1 0 99
+faulting 0 0 0
+drain 0 1 0 0 1 77
+faulting 0 0 0
+turn 4 10 3 77
+turn 1 20 3 77
+turn 0 20 3 77
+withdraw 0
+turn 3 10 3 77
 not in form 2 18 2 65538
 ";
     let edges = Path::new(env!("CARGO_MANIFEST_DIR")).join("tests/edges.c");

@@ -157,8 +157,8 @@ fn calls_answer_by_name() {
     assert_eq!(single, Ok(Turned::Cleared(20)));
     let totals = Totals {
         ran: 1,
-        stood: 0,
         cleared: 1,
+        ..Totals::default()
     };
     assert_eq!(cabinet.drain(), Ok(totals));
     assert_eq!(cabinet.current_value(50), Ok(7));
@@ -167,6 +167,29 @@ fn calls_answer_by_name() {
     assert_eq!(cabinet.plain_run(), Ok(cabinet.tables().view.clone()));
     assert_eq!(cabinet.set_up(), Ok(()));
     assert_eq!(cabinet, Cabinet::new(3).unwrap());
+}
+
+/// Case P9, and one that writes before and one that writes after it.
+#[test]
+fn a_change_that_breaks_off_answers_with_the_place() {
+    let twice = [set(34, 7), set(34, 8)].concat();
+    let mut cabinet = Cabinet::new(3).unwrap();
+    for (timestamp, program) in [(5, set(34, 6)), (10, twice), (15, copy(34, 51))] {
+        assert_eq!(cabinet.take_in(timestamp, &program), Ok(Taken::Done));
+    }
+    let mut single = cabinet.clone();
+    assert_eq!(single.turn(), Ok(Turned::Ran(5)));
+    assert_eq!(single.turn(), Ok(Turned::Faulted(10, 3)));
+    assert_eq!(single.turn(), Ok(Turned::Ran(15)));
+    let totals = Totals {
+        ran: 2,
+        faulted: 1,
+        ..Totals::default()
+    };
+    assert_eq!(cabinet.drain(), Ok(totals));
+    assert_eq!(cabinet, single);
+    assert_eq!(cabinet.current_value(34), Ok(6));
+    assert_eq!(cabinet.current_value(51), Ok(6));
 }
 
 #[test]
@@ -241,6 +264,7 @@ fn answers_read_as_people_say_them() {
         ran: 2,
         stood: 1,
         cleared: 0,
+        faulted: 1,
     };
     let standing = |status, withdrawn| Standing { status, withdrawn };
     for (said, expected) in [
@@ -250,7 +274,8 @@ fn answers_read_as_people_say_them() {
         (Turned::Ran(20).to_string(), "20 ran"),
         (Turned::Stood(30).to_string(), "30 stood"),
         (Turned::Cleared(10).to_string(), "10 was cleared"),
-        (totals.to_string(), "2 ran, 1 stood, 0 cleared"),
+        (Turned::Faulted(10, 3).to_string(), "10 faulted at place 3"),
+        (totals.to_string(), "2 ran, 1 stood, 0 cleared, 1 faulted"),
         (standing(Status::New, false).to_string(), "New"),
         (
             standing(Status::Invalid, true).to_string(),

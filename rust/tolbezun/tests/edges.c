@@ -23,24 +23,37 @@ static int32_t seen_values[32 * N], written_values[32 * N], view[1024];
 /* r0 = -5; setting 1023 = r0 */
 static const uint8_t change[] = {1, 0, 0, 0, 0xFB, 0xFF, 0xFF, 0xFF, 13, 0, 0, 0, 0xFF, 3, 0, 0};
 
+/* The same twice, so that the second write, at place 3, faults. */
+static const uint8_t twice[] = {1, 0, 0, 0, 0xFB, 0xFF, 0xFF, 0xFF, 13, 0, 0, 0, 0xFF, 3, 0, 0,
+                                1, 0, 0, 0, 0xFB, 0xFF, 0xFF, 0xFF, 13, 0, 0, 0, 0xFF, 3, 0, 0};
+
 /* One entry: the withdrawal of 15. */
 static const uint8_t package[] = {1, 0, 15, 0, 0, 0, 0, 0, 0, 0, 1, 0, 0, 0};
 
-static uint64_t timestamp[2] = {77, 77};
-static uint64_t totals[4] = {77, 77, 77, 77};
+static uint64_t values[3] = {77, 77, 77};
+static uint64_t totals[5] = {77, 77, 77, 77, 77};
 static uint8_t answers[513];
 static int32_t settings[1025];
 
 static void turn(size_t entries)
 {
-    int answer = tolbezun_turn(TABLES, timestamp, entries);
-    printf("turn %d %" PRIu64 " %" PRIu64 "\n", answer, timestamp[0], timestamp[1]);
+    int answer = tolbezun_turn(TABLES, values, entries);
+    printf("turn %d %" PRIu64 " %" PRIu64 " %" PRIu64 "\n", answer, values[0], values[1], values[2]);
 }
 
 static void drain(size_t entries)
 {
     int answer = tolbezun_drain(TABLES, totals, entries);
-    printf("drain %d %" PRIu64 " %" PRIu64 " %" PRIu64 "\n", answer, totals[0], totals[1], totals[2]);
+    printf("drain %d %" PRIu64 " %" PRIu64 " %" PRIu64, answer, totals[0], totals[1], totals[2]);
+    printf(" %" PRIu64 " %" PRIu64 "\n", totals[3], totals[4]);
+}
+
+/* Sets up, and takes in a change that faults and one that does not. */
+static void take_in_faulting(void)
+{
+    printf("faulting %d", tolbezun_set_up(TABLES));
+    printf(" %d", tolbezun_take_in(TABLES, 10, twice, sizeof twice));
+    printf(" %d\n", tolbezun_take_in(TABLES, 20, change, sizeof change));
 }
 
 int main(void)
@@ -56,14 +69,15 @@ int main(void)
     printf(" %d", tolbezun_take_in(TABLES, 2, change, 7));
     printf(" %d\n", tolbezun_take_in(TABLES, 2, change + 1, 8));
     turn(0);
+    turn(1);
+    turn(3);
     turn(2);
-    turn(1);
-    turn(1);
-    timestamp[0] = 78;
-    turn(1);
-    drain(2);
-    drain(4);
+    turn(2);
+    values[0] = 78;
+    turn(2);
     drain(3);
+    drain(5);
+    drain(4);
     printf("current_value %" PRId64 " %" PRId64 " %" PRId64 "\n", tolbezun_current_value(TABLES, 1023),
            tolbezun_current_value(TABLES, 1024), tolbezun_current_value(LENT(3), 0));
     printf("value_as_of %" PRId64 " %" PRId64 " %" PRId64 "\n", tolbezun_value_as_of(TABLES, UINT64_MAX, 1023),
@@ -89,10 +103,18 @@ int main(void)
     printf(" %" PRId32, settings[2]);
     printf(" %d", tolbezun_start_values(settings, 1024));
     printf(": %" PRId32 " %" PRId32 " %" PRId32 "\n", settings[2], settings[3], settings[1024]);
+    take_in_faulting();
+    drain(4);
+    take_in_faulting();
+    turn(2);
+    turn(2);
+    turn(2);
+    printf("withdraw %d\n", tolbezun_withdraw(TABLES, 10));
+    turn(2);
     status[0] = 3;
     printf("not in form %d", tolbezun_withdraw(TABLES, 1));
-    printf(" %d", tolbezun_turn(TABLES, timestamp, 1));
-    printf(" %d", tolbezun_drain(TABLES, totals, 3));
+    printf(" %d", tolbezun_turn(TABLES, values, 2));
+    printf(" %d", tolbezun_drain(TABLES, totals, 4));
     printf(" %" PRIu32 "\n", tolbezun_standing(TABLES, 1));
     return 0;
 }

@@ -15,6 +15,9 @@ returns-3 c = ap (λ (a : Turned). countedIn a (c .before .before .args .totals)
 returns-4 : tie.Need-returns-4
 returns-4 c = ap (λ (a : Turned). countedIn a (c .before .before .args .totals)) (sym (c .enum-told4 .given .1))
 
+returns-5 : tie.Need-returns-5
+returns-5 c = ap (λ (a : Turned). countedIn a (c .before .before .args .totals)) (sym (c .enum-told5 .given .1))
+
 pub counted-spec : {M : Type 1} → statement M
 counted-spec =
     tie.close
@@ -28,7 +31,10 @@ counted-spec =
     (λ c. search needs)
     (λ c. search needs)
     (λ c. search needs)
+    (λ c. search needs)
+    (λ c. search needs)
     returns-2
     returns-3
     returns-4
+    returns-5
     (λ c. search needs))

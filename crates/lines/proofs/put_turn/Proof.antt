@@ -29,6 +29,11 @@ returns-4 c =
 
 returns-5 : tie.Need-returns-5
 returns-5 c =
+    let q = c .before .before .put-fault .ensures in
+    (put-as (q .0) (ap turnLine (sym (c .before .before .before .before .before .answer4 .given .1))), q .1)
+
+returns-6 : tie.Need-returns-6
+returns-6 c =
     let s = c .before .before .before in
     (put-as (put-nothing (s .args .at) (s .args .text .now)) (ap turnLine (sym (c .enum-told2 .given .1))), omega arith)
 
@@ -47,6 +52,8 @@ put-turn-spec =
     (λ c. search needs)
     (λ c κs. search needs)
     (λ c. search needs)
+    (λ c κs. search needs)
+    (λ c. search needs)
     returns
     (λ c. search needs)
     returns-2
@@ -54,4 +61,6 @@ put-turn-spec =
     returns-3
     (λ c. search needs)
     returns-4
-    returns-5)
+    (λ c. search needs)
+    returns-5
+    returns-6)

@@ -39,7 +39,7 @@ returns c =
     let at-put-lists = c .before .before .before .before .before .before .before .before .before .before in
     let at-propagate = before-put-lists at-put-lists in
     let at-new-lists = before-propagate at-propagate in
-    record { new = at-new-lists .new-lists .result; arrays = _; made = at-new-lists .new-lists .ensures .0; follows = at-propagate .propagate .ensures; put = at-put-lists .put-lists .ensures }
+    record { arrays = _; made = at-new-lists .new-lists .ensures .0; follows = at-propagate .propagate .ensures; put = at-put-lists .put-lists .ensures }
 
 pub replace-spec : {M : Type 1} → statement M
 replace-spec =

@@ -34,7 +34,7 @@ fn every_form_of_answer() {
             ("turn", "ran 5"),
             ("turn", "idle"),
             (&take_in(30, copy(34, 50)), "done"),
-            ("drain", "totals 1 0 0"),
+            ("drain", "totals 1 0 0 0"),
             (&take_in(10, set(34, 7)), "done"),
             ("turn", "ran 10"),
             ("standing 30", "standing 2 0"),
@@ -53,9 +53,15 @@ fn every_form_of_answer() {
             (&take_in(40, set(60, -2147483648)), "done"),
             ("withdraw 40", "done"),
             ("standing 40", "standing 0 1"),
+            (&take_in(45, set(60, 1) + &copy(60, 61)), "done"),
             ("withdraw 20", "done"),
+            ("turn", "cleared 20"),
+            ("turn", "cleared 40"),
+            ("turn", "faulted 45 2"),
+            ("standing 45", "standing 1 0"),
             (&take_in(50, set(61, -2147483648)), "done"),
-            ("drain", "totals 1 0 2"),
+            ("withdraw 45", "done"),
+            ("drain", "totals 1 0 1 0"),
             ("current 61", "value -2147483648"),
             (
                 "plain_run",
@@ -72,20 +78,27 @@ fn every_form_of_answer() {
     );
 }
 
-/// The totals of one drain are three numbers other than 0.
+/// The totals of one drain are four numbers other than 0.
 #[test]
 fn totals_in_order() {
+    let twice = set(53, 1) + &set(53, 1);
     let calls = [
         (take_in(30, copy(34, 50)), "done"),
         (take_in(40, copy(34, 51)), "done"),
         (take_in(50, set(52, 1)), "done"),
-        ("drain".to_string(), "totals 3 0 0"),
-        // 10 marks 30 and 40, and 20 lets them stand.
+        ("drain".to_string(), "totals 3 0 0 0"),
+        // 10 marks 30 and 40, and 20 lets them stand. 60, 70 and 80 write 53 twice.
         (take_in(10, set(34, 7)), "done"),
         ("turn".to_string(), "ran 10"),
         (take_in(20, set(34, 1)), "done"),
         ("withdraw 50".to_string(), "done"),
-        ("drain".to_string(), "totals 1 2 1"),
+        (take_in(60, &twice), "done"),
+        (take_in(70, &twice), "done"),
+        (take_in(80, &twice), "done"),
+        (take_in(55, set(54, 1)), "done"),
+        (take_in(56, set(54, 2)), "done"),
+        (take_in(57, set(54, 3)), "done"),
+        ("drain".to_string(), "totals 4 2 1 3"),
     ];
     assert_answers(&[], &calls);
 }
@@ -113,7 +126,7 @@ fn tables_after_a_change() {
         ("view", settings(&[])),
     ];
     let expected = expected.map(|(key, list)| format!("\"{key}\": {list}"));
-    let expected = format!("done\ndone\ntotals 1 0 0\n{{{}}}\n", expected.join(", "));
+    let expected = format!("done\ndone\ntotals 1 0 0 0\n{{{}}}\n", expected.join(", "));
     assert_eq!(lines, expected);
 }
 
@@ -128,7 +141,7 @@ fn tables_need_not_be_set_up() {
         &[],
         &[
             (take_in(10, set(34, 7)), "done"),
-            ("drain".to_string(), "totals 1 0 0"),
+            ("drain".to_string(), "totals 1 0 0 0"),
             ("current 34".to_string(), "value 7"),
             ("set_up".to_string(), "done"),
             ("current 34".to_string(), "value 1"),
@@ -224,7 +237,7 @@ fn the_most_entries() {
         &[
             (&line, &first),
             (&line, &second),
-            (&"drain".to_string(), "totals 512 0 0"),
+            (&"drain".to_string(), "totals 512 0 0 0"),
         ],
     );
 }

@@ -82,7 +82,7 @@ fn the_script_may_be_a_file() {
         "script.calls",
         take_in(10, set(34, 7)) + "\ndrain\ncurrent 34",
     );
-    let answers = "done\ntotals 1 0 0\nvalue 7\n";
+    let answers = "done\ntotals 1 0 0 0\nvalue 7\n";
     // Standard input is not read.
     assert_eq!(printed(&["script.calls"], "turn"), answers);
     assert_eq!(printed(&["--n", "1", "script.calls"], ""), answers);

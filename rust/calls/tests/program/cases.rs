@@ -1,5 +1,5 @@
-//! The cases of document 01, "Cases to know", with the start values of document 02 (R-1), and the
-//! example scripts.
+//! The cases of document 01, "Cases to know", with the start values (R-1) and the faults shown (R-2)
+//! of document 02, and the example scripts.
 
 use crate::programs::{add, constant, copy, instruction, package, set, take, take_in, write};
 use crate::{assert_answers, printed};
@@ -13,14 +13,14 @@ fn assert_case(calls: &[(&str, &str)]) {
 
 #[test]
 fn p1() {
-    assert_case(&[("turn", "idle"), ("drain", "totals 0 0 0")]);
+    assert_case(&[("turn", "idle"), ("drain", "totals 0 0 0 0")]);
 }
 
 #[test]
 fn p2() {
     assert_case(&[
         (&take_in(20, set(34, 5)), "done"),
-        ("drain", "totals 1 0 0"),
+        ("drain", "totals 1 0 0 0"),
         (&take_in(10, set(34, 7)), "done"),
         ("turn", "ran 10"),
         ("turn", "idle"),
@@ -33,7 +33,7 @@ fn p2() {
 fn p3() {
     assert_case(&[
         (&take_in(20, copy(34, 50)), "done"),
-        ("drain", "totals 1 0 0"),
+        ("drain", "totals 1 0 0 0"),
         (&take_in(10, set(34, 7)), "done"),
         ("turn", "ran 10"),
         ("turn", "ran 20"),
@@ -46,7 +46,7 @@ fn p3() {
 fn p4() {
     assert_case(&[
         (&take_in(20, copy(34, 50)), "done"),
-        ("drain", "totals 1 0 0"),
+        ("drain", "totals 1 0 0 0"),
         (&take_in(10, set(34, 1)), "done"),
         ("turn", "ran 10"),
         ("turn", "idle"),
@@ -59,7 +59,7 @@ fn p5() {
     assert_case(&[
         (&take_in(20, set(34, 5)), "done"),
         (&take_in(30, copy(34, 50)), "done"),
-        ("drain", "totals 2 0 0"),
+        ("drain", "totals 2 0 0 0"),
         (&take_in(10, set(34, 7)), "done"),
         ("turn", "ran 10"),
         ("turn", "idle"),
@@ -72,7 +72,7 @@ fn p5() {
 fn p6() {
     assert_case(&[
         (&take_in(20, add(34, 1)), "done"),
-        ("drain", "totals 1 0 0"),
+        ("drain", "totals 1 0 0 0"),
         ("current 34", "value 2"),
         (&take_in(10, set(34, 7)), "done"),
         ("turn", "ran 10"),
@@ -86,7 +86,7 @@ fn p6() {
 fn p7() {
     assert_case(&[
         (&take_in(30, copy(34, 50)), "done"),
-        ("drain", "totals 1 0 0"),
+        ("drain", "totals 1 0 0 0"),
         (&take_in(10, set(34, 7)), "done"),
         ("turn", "ran 10"),
         (&take_in(20, set(34, 1)), "done"),
@@ -102,7 +102,7 @@ fn p8() {
     let program = set(34, 7) + &set(40, 3);
     assert_case(&[
         (&take_in(10, program), "done"),
-        ("drain", "totals 1 0 0"),
+        ("drain", "totals 1 0 0 0"),
         ("current 34", "value 7"),
         ("current 40", "value 3"),
         ("withdraw 10", "done"),
@@ -117,11 +117,14 @@ fn p8() {
 fn p9() {
     let program = set(34, 7) + &set(34, 8);
     assert_case(&[
-        (&take_in(10, program), "done"),
-        ("turn", "ran 10"),
+        (&take_in(10, &program), "done"),
+        ("turn", "faulted 10 3"),
         ("turn", "idle"),
         ("current 34", "value 1"),
         ("value_as_of 11 34", "value 1"),
+        ("set_up", "done"),
+        (&take_in(10, &program), "done"),
+        ("drain", "totals 0 0 0 1"),
     ]);
 }
 
@@ -144,7 +147,7 @@ fn p10() {
     ];
     assert_case(&[
         (&take_in(10, program.concat()), "done"),
-        ("drain", "totals 1 0 0"),
+        ("drain", "totals 1 0 0 0"),
         ("current 40", "value -2147483648"),
         ("current 41", "value -2147483648"),
         ("current 42", "value -3"),
@@ -157,7 +160,7 @@ fn p11() {
     assert_case(&[
         (&take_in(10, set(36, 400)), "done"),
         (&take_in(30, take(36, 300, 37)), "done"),
-        ("drain", "totals 2 0 0"),
+        ("drain", "totals 2 0 0 0"),
         ("current 36", "value 100"),
         ("current 37", "value 0"),
         (&take_in(20, take(36, 200, 37)), "done"),
@@ -179,7 +182,7 @@ fn accepted_and_refused() {
         (&take_in(u64::MAX - 1, "-"), "done"),
         (&take_in(2, stops(256)), "done"),
         (&take_in(3, set(1023, 9)), "done"),
-        ("drain", "totals 4 0 0"),
+        ("drain", "totals 4 0 0 0"),
         ("current 1023", "value 9"),
         ("value_as_of 18446744073709551615 1023", "value 9"),
         (&take_in(0, "-"), "refused 4"),
@@ -212,14 +215,20 @@ fn package_of_the_cabinet_program() {
     ]);
 }
 
+/// What `calls` prints for a file of `examples/`.
+#[track_caller]
+fn assert_example(name: &str, expected: &str) {
+    let examples = concat!(env!("CARGO_MANIFEST_DIR"), "/../../examples");
+    assert_eq!(printed(&[&format!("{examples}/{name}")], ""), expected);
+}
+
 #[test]
 fn example_of_power() {
-    let example = concat!(env!("CARGO_MANIFEST_DIR"), "/../../examples/power.calls");
     let expected = "\
 done
 done
 done
-totals 2 0 0
+totals 2 0 0 0
 value 100
 value 0
 done
@@ -231,10 +240,30 @@ value -100
 value 1
 value 200
 done
-totals 1 0 1
+totals 1 0 1 0
 value 100
 value 0
 standing 1 1
 ";
-    assert_eq!(printed(&[example], ""), expected);
+    assert_example("power.calls", expected);
+}
+
+#[test]
+fn example_of_a_fault() {
+    let expected = "\
+done
+done
+done
+done
+ran 10
+faulted 20 2
+ran 30
+done
+totals 3 0 0 0
+value 1
+done
+totals 1 0 1 1
+value 0
+";
+    assert_example("fault.calls", expected);
 }

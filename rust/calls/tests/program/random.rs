@@ -97,19 +97,22 @@ impl Script {
                 let answer = turn(n, tables).map(|turn| match turn {
                     None => "idle".to_string(),
                     Some(turn) => {
-                        let turned = match turn.turned {
-                            Turned::Ran => "ran ",
-                            Turned::Stood => "stood ",
-                            Turned::Cleared => "cleared ",
-                        };
-                        turned.to_string() + &turn.timestamp.to_string()
+                        let timestamp = turn.timestamp.to_string();
+                        match turn.turned {
+                            Turned::Ran => "ran ".to_string() + &timestamp,
+                            Turned::Stood => "stood ".to_string() + &timestamp,
+                            Turned::Cleared => "cleared ".to_string() + &timestamp,
+                            Turned::Faulted(place) => {
+                                "faulted ".to_string() + &timestamp + " " + &place.to_string()
+                            }
+                        }
                     }
                 });
                 self.push("turn".to_string(), answer);
             }
             Call::Drain => {
                 let answer = drain(n, tables).map(|totals| {
-                    let totals = [totals.ran, totals.stood, totals.cleared];
+                    let totals = [totals.ran, totals.stood, totals.cleared, totals.faulted];
                     "totals ".to_string() + &totals.map(|total| total.to_string()).join(" ")
                 });
                 self.push("drain".to_string(), answer);
@@ -269,6 +272,7 @@ fn lists_of_calls_have_the_outside_answers_and_tables() {
             "turn ran",
             "turn stood",
             "turn cleared",
+            "turn faulted",
             "drain totals",
             "current value",
             "current refused 5",
@@ -374,6 +378,7 @@ fn calls_on_any_tables_have_the_outside_answers_and_tables() {
         "take_in_package refused 1",
         "take_in_package refused 2",
         "turn ran",
+        "turn faulted",
         "drain totals",
         "tables ",
     ];

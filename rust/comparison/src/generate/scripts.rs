@@ -3,10 +3,13 @@
 use super::packages::{self, lay_out, Breach};
 use super::{damage, tables, Random, Settings, EXTREMES};
 use outside::package::{Entry, ANSWERS};
-use outside::program::{op, Access, Instruction, INSTRUCTION_BYTES, MAX_INSTRUCTIONS, SETTINGS};
+use outside::program::{
+    op, Access, Instruction, INSTRUCTION_BYTES, MAX_INSTRUCTIONS, REGISTERS, SETTINGS,
+};
 use outside::start::settings_at_start;
 use outside::tables::{Status, Tables, INFINITY, LIST_ENTRIES, PROGRAM_BYTES};
 use std::collections::HashSet;
+use std::iter;
 
 /// A call that may alter the tables, with its arguments besides N and the tables.
 #[derive(Clone, Debug)]
@@ -257,6 +260,12 @@ impl Source {
             }
             program.extend(block);
         }
+        // Some programs use every place, so that their last instructions are those of the highest.
+        if random.below(8) == 0 {
+            let unused = with_number(op::CONSTANT, REGISTERS as u8 - 1, 0);
+            let missing = MAX_INSTRUCTIONS - program.len();
+            program.splice(..0, iter::repeat_n(unused, missing));
+        }
         program.iter().flat_map(|i| i.to_bytes()).collect()
     }
 
@@ -271,7 +280,7 @@ impl Source {
             b,
             ..Instruction::default()
         };
-        match random.below(8) {
+        match random.below(9) {
             // A setting is set, copied, changed.
             0 | 1 => vec![constant, with_number(op::WRITE, b, x)],
             2 => vec![with_number(op::READ, a, x), with_number(op::WRITE, a, y)],
@@ -299,6 +308,17 @@ impl Source {
                 with_number(op::READ, a, x),
                 constant,
                 by_register(op::WRITE_INDEXED, b, a),
+            ],
+            // A setting is written twice, unless another one is 0.
+            7 => vec![
+                constant,
+                with_number(op::WRITE, b, x),
+                with_number(op::READ, a, y),
+                Instruction {
+                    n: 1,
+                    ..by_register(op::SKIP_IF_ZERO, 0, a)
+                },
+                with_number(op::WRITE, b, x),
             ],
             // A setting is only read.
             _ => vec![with_number(op::READ, a, x)],

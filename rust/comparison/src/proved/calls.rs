@@ -105,6 +105,7 @@ pub fn turn(n: usize, tables: &mut Tables) -> Result<Option<Turn>, u8> {
         tolbezun::Turned::Ran(timestamp) => (Turned::Ran, timestamp),
         tolbezun::Turned::Stood(timestamp) => (Turned::Stood, timestamp),
         tolbezun::Turned::Cleared(timestamp) => (Turned::Cleared, timestamp),
+        tolbezun::Turned::Faulted(timestamp, place) => (Turned::Faulted(place), timestamp),
     };
     Ok(Some(Turn { timestamp, turned }))
 }
@@ -134,11 +135,13 @@ pub fn drain(n: usize, tables: &mut Tables) -> Result<Totals, u8> {
         ran,
         stood,
         cleared,
+        faulted,
     } = calls::drain(n, tables).map_err(Refusal::number)?;
     Ok(Totals {
         ran,
         stood,
         cleared,
+        faulted,
     })
 }
 

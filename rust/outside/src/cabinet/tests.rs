@@ -67,6 +67,23 @@ setting 1023 -2147483648
     assert_eq!(listing(&package), expected);
 }
 
+/// "`turn 10 faulted 2` where the third instruction broke off" (document 02, R-2).
+#[test]
+fn a_turn_that_faults_is_listed_with_the_place() {
+    let package = package(&[
+        (20, 0, &copy(34, 51)),
+        (10, 0, &[set(34, 7), copy(34, 51)].concat()),
+    ]);
+    let expected = "\
+entry 0 taken
+entry 1 taken
+turn 10 faulted 2
+turn 20 ran
+setting 51 1
+";
+    assert_eq!(listing(&package), expected);
+}
+
 #[test]
 fn the_capacity_is_128() {
     let program = set(34, 0);

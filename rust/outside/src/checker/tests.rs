@@ -1,10 +1,11 @@
-use super::Turned::{Cleared, Ran, Stood};
+use super::Turned::{Cleared, Faulted, Ran, Stood};
 use super::*;
 use crate::calls::value_as_of;
 use crate::examples::{
-    add, copy, four_changes, if_zero, set, tables, take, write_named_by, Change, Script, INVALID,
-    NEW, VALID,
+    add, assemble, copy, four_changes, if_zero, set, tables, take, write_named_by, Change, Script,
+    INVALID, NEW, VALID,
 };
+use crate::intake::{take_in, Taken};
 use crate::program::{op, Instruction};
 
 /// The program of no instructions.
@@ -101,7 +102,7 @@ fn p8_a_withdrawal() {
 fn p9_a_setting_written_twice() {
     let mut script = Script::new(4);
     script.take_in(10, &[set(34, 7), set(34, 8)].concat());
-    assert_eq!(script.drain(), [(10, Ran)]);
+    assert_eq!(script.drain(), [(10, Faulted(3))]);
     assert_eq!(script.view(), []);
 }
 
@@ -171,7 +172,7 @@ fn a_faulted_run_is_tried_again() {
     let mut script = Script::new(4);
     script.take_in(10, &set(34, -1));
     script.take_in(20, &write_named_by(34));
-    assert_eq!(script.drain(), [(10, Ran), (20, Ran)]);
+    assert_eq!(script.drain(), [(10, Ran), (20, Faulted(1))]);
     assert_eq!(script.reads(20), [(34, -1)]);
     assert_eq!(script.view(), [(34, -1)]);
     script.take_in(15, &set(34, 50));
@@ -188,7 +189,7 @@ fn a_run_that_faults_again_or_for_the_first_time_writes_nothing() {
     script.drain();
     assert_eq!(script.view(), [(34, 50), (50, 50), (66, 50)]);
     script.take_in(15, &set(34, 1024));
-    assert_eq!(script.drain(), [(15, Ran), (20, Ran), (30, Ran)]);
+    assert_eq!(script.drain(), [(15, Ran), (20, Faulted(1)), (30, Ran)]);
     assert_eq!(script.view(), [(34, 1024)]);
     script.withdraw(10);
     assert_eq!(script.drain(), [(10, Cleared)]);
@@ -197,6 +198,80 @@ fn a_run_that_faults_again_or_for_the_first_time_writes_nothing() {
     // It writes the 1 that it reads to setting 1.
     assert_eq!(script.view(), [(1, 1)]);
     assert_eq!(script.reads(20), [(34, 1)]);
+}
+
+// Document 02, R-2.
+
+/// The lowest place is 1: before the first instruction every register names setting 0, and nothing
+/// is written.
+#[test]
+fn a_turn_that_faults_names_the_place() {
+    let mut script = Script::new(32);
+    let ins = |op, n| Instruction {
+        op,
+        n,
+        ..Instruction::default()
+    };
+    for place in 1..=31 {
+        let mut program = vec![ins(op::CONSTANT, 1024); 32];
+        program[place] = ins(op::WRITE_INDEXED, 0);
+        script.take_in(place as u64, &program);
+        assert_eq!(script.turn(), Some((place as u64, Faulted(place))));
+    }
+    assert_eq!(script.drain(), []);
+}
+
+#[test]
+fn each_kind_of_fault_is_shown() {
+    let mut script = Script::new(4);
+    script.take_in(10, &set(35, 1024));
+    script.take_in(20, &write_named_by(35));
+    script.take_in(30, &[set(34, 7), copy(34, 51)].concat());
+    script.take_in(40, &[set(34, 7), set(34, 7)].concat());
+    let turns = [
+        (10, Ran),
+        (20, Faulted(1)),
+        (30, Faulted(2)),
+        (40, Faulted(3)),
+    ];
+    assert_eq!(script.drain(), turns);
+    assert_eq!(script.view(), [(35, 1024)]);
+}
+
+/// It answers stood, as any other would, and so nothing of the fault.
+#[test]
+fn a_change_that_faulted_stands() {
+    let mut script = Script::new(4);
+    script.take_in(10, &set(34, -1));
+    script.take_in(20, &write_named_by(34));
+    assert_eq!(script.drain(), [(10, Ran), (20, Faulted(1))]);
+    script.take_in(12, &set(34, 5));
+    assert_eq!(script.turn(), Some((12, Ran)));
+    script.take_in(15, &set(34, -1));
+    assert_eq!(script.drain(), [(15, Ran), (20, Stood)]);
+    assert_eq!(script.view(), [(34, -1)]);
+}
+
+#[test]
+fn a_drain_counts_faults_by_themselves() {
+    let mut tables = Tables::new(4);
+    for (timestamp, program) in [
+        (10, set(34, -1)),
+        (20, write_named_by(34)),
+        (30, write_named_by(34)),
+    ] {
+        let program = assemble(&program);
+        assert_eq!(
+            take_in(4, &mut tables, timestamp, &program),
+            Ok(Taken::Done)
+        );
+    }
+    let expected = Totals {
+        ran: 1,
+        faulted: 2,
+        ..Totals::default()
+    };
+    assert_eq!(drain(4, &mut tables), Ok(expected));
 }
 
 // Which change has the turn.
@@ -486,8 +561,8 @@ fn a_drain_of_four_changes() {
     // Change 20 sets 34 to 9 and has 30 run again; 40 is withdrawn.
     let expected = Totals {
         ran: 2,
-        stood: 0,
         cleared: 1,
+        ..Totals::default()
     };
     assert_eq!(totals, Ok(expected));
     assert_eq!(tables.view[34], 9);

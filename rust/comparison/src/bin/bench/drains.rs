@@ -181,7 +181,9 @@ impl Case {
             ran,
             stood,
             cleared,
+            faulted,
         } = measured.answer;
+        assert_eq!(faulted, 0);
         assert!(self.ran.is_none_or(|known| known as u64 == ran));
         println!(
             "{:42}{ran:6}{stood:7}{cleared:9}{:11.1}{:12.1}{:9.2}{}{}",
