@@ -28,17 +28,13 @@ entryLine index kind answer = ascii "entry " ++ decimal index ++ ascii " " ++ ou
 abbrev pub turnOf : ℕ → List ℕ → List ℕ
 turnOf timestamp done = ascii "turn " ++ decimal timestamp ++ done ++ ascii "\n"
 
--- a turn that broke off at a place (document 02, R-2: "`turn 10 faulted 2` where the third instruction broke off")
-abbrev pub faultLine : ℕ → ℕ → List ℕ
-faultLine timestamp place = ascii "turn " ++ decimal timestamp ++ ascii " faulted " ++ decimal place ++ ascii "\n"
-
--- a turn; an idle one has no line
+-- a turn; an idle one has no line. Document 02, R-2: "`turn 10 faulted 2` where the third instruction broke off"
 abbrev pub turnLine : Turned → List ℕ
 turnLine turn-answer.Idle = []
 turnLine (turn-answer.Ran t) = turnOf t (ascii " ran")
 turnLine (turn-answer.Stood t) = turnOf t (ascii " stood")
 turnLine (turn-answer.Cleared t) = turnOf t (ascii " cleared")
-turnLine (turn-answer.Faulted t place) = faultLine t place
+turnLine (turn-answer.Faulted t place) = turnOf t (ascii " faulted " ++ decimal place)
 turnLine (turn-answer.Refused r) = []
 
 -- a setting and its value; one at the value that it starts at has no line (document 02, R-1: "The program lists settings that differ from their start.")

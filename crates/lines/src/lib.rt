@@ -6,7 +6,8 @@ use text::put_signed;
 ghost use Prim.Native.Nat.{_+_, _≤_};
 ghost use lib.ListN.{length};
 ghost use Rattle.text.specs.Pieces.{Put};
-ghost use Rattle.lines.specs.Lines.{packageLine, outcome, entryLine, turnOf, faultLine, turnLine, settingLine};
+ghost use Rattle.model.specs.declared.Turned.the-variants.{Faulted};
+ghost use Rattle.lines.specs.Lines.{packageLine, outcome, entryLine, turnOf, turnLine, settingLine};
 
 // The line of a package that is refused.
 pub fn put_refusal(refusal: u8, text: &mut [u8], at: usize) -> usize
@@ -66,7 +67,7 @@ fn put_turn_of(timestamp: u64, done: &[u8], text: &mut [u8], at: usize) -> usize
 // The line of a turn that faulted, by its timestamp and the place.
 fn put_fault(timestamp: u64, place: usize, text: &mut [u8], at: usize) -> usize
     requires { ⌜ at + 64 ≤ length (now text) ⌝ }
-    ensures { λ r. ⌜ Put at (faultLine timestamp place) (now (text .entry)) (now (text .exit)) r ⌝ }
+    ensures { λ r. ⌜ Put at (turnLine (Faulted timestamp place)) (now (text .entry)) (now (text .exit)) r ⌝ }
     ensures { λ r. ⌜ r ≤ at + 64 ⌝ }
 {
     let mut end = put(b"turn ", text, at);
