@@ -53,7 +53,8 @@ enum tolbezun_refusal {
     TOLBEZUN_OTHER_PROGRAM = 8,  /* the timestamp is held with another program */
     TOLBEZUN_FULL = 9,           /* the held count equals n and the timestamp is not held */
     TOLBEZUN_NOT_HELD = 10,      /* the timestamp is not held */
-    TOLBEZUN_WITHDRAWN = 11      /* the change is withdrawn already */
+    TOLBEZUN_WITHDRAWN = 11,     /* the change is withdrawn already */
+    TOLBEZUN_ROOM = 12           /* the package would pass its own limits or the lent slice */
 };
 
 /*
@@ -316,6 +317,36 @@ uint8_t tolbezun_plain_run(
     const int32_t *written_values, size_t written_values_len,
     const int32_t *view, size_t view_len,
     int32_t *settings, size_t settings_len);
+
+/*
+ * Writes all held changes by rising timestamp, then the withdrawals of the withdrawn ones by rising
+ * timestamp, as one package, in the layout that take in a package reads. Taken into tables just set up
+ * that have room for the changes, and drained, it gives what these tables have once they are drained.
+ *
+ * package         its first bytes get the package, later ones keep their contents; package_len is
+ *                 their number, which may be any: a package has at most 65,535 bytes
+ *
+ * Alters package alone. Answers the length that was written, 2 to 65,535, or 65,536 + refusal 1, 2 or
+ * 12. Refusal 12 is for a package of more than 512 entries, of more than 65,535 bytes or of more than
+ * package_len.
+ */
+uint32_t tolbezun_package_out(
+    size_t n,
+    const uint16_t *held, size_t held_len,
+    const uint64_t *timestamps, size_t timestamps_len,
+    const uint16_t *order, size_t order_len,
+    const uint16_t *status, size_t status_len,
+    const uint16_t *withdrawn, size_t withdrawn_len,
+    const uint16_t *length, size_t length_len,
+    const uint8_t *programs, size_t programs_len,
+    const uint16_t *read_count, size_t read_count_len,
+    const uint16_t *write_count, size_t write_count_len,
+    const uint16_t *read_settings, size_t read_settings_len,
+    const int32_t *seen_values, size_t seen_values_len,
+    const uint16_t *write_settings, size_t write_settings_len,
+    const int32_t *written_values, size_t written_values_len,
+    const int32_t *view, size_t view_len,
+    uint8_t *package, size_t package_len);
 
 /*
  * The start values: what a new switch comes up with. Setting port x 16 + field starts at 1 in field 2,

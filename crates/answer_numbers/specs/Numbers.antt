@@ -6,7 +6,7 @@ use lib.Dec.{eqb}
 use lib.IntN.{ℤ, pos, natAbs}
 use lib.ListN.{length, getD, drop}
 use Rattle.model.specs.Tables.{Tables}
-use Rattle.model.specs.Calls.{Given, refused, given, turnedGiven, drainedGiven, numberGiven, answerNumber, Reply, reply, PackageReply, PlainReply, turn, drain}
+use Rattle.model.specs.Calls.{Given, refused, given, turnedGiven, drainedGiven, packedGiven, numberGiven, answerNumber, Reply, reply, PackageReply, PlainReply, PackedReply, turn, drain}
 
 -- the value, or 4,294,967,296 + the refusal
 abbrev pub valueNumber : Given → ℤ
@@ -17,6 +17,11 @@ valueNumber (given k values) = getD values 0 (pos 0)
 abbrev pub standingNumber : Given → ℕ
 standingNumber (refused r) = 65536 + r
 standingNumber (given k values) = natAbs (getD values 0 (pos 0)) + natAbs (getD values 1 (pos 0)) * 256
+
+-- the length of a package, or 65,536 + the refusal
+abbrev pub packedNumber : Given → ℕ
+packedNumber (refused r) = 65536 + r
+packedNumber (given k values) = natAbs (getD values 0 (pos 0))
 
 -- of a turn: 0 idle, 1 ran, 2 stood, 3 cleared, 4 faulted, or 16 + the refusal
 abbrev pub turnedNumber : Given → ℕ
@@ -44,6 +49,10 @@ packageNumbers r = reply (numbered (answerNumber (r .answer)) (r .answers)) (r .
 -- a plain run, or the start values: the slice has the settings
 abbrev pub plainNumbers : PlainReply → Numbered ℤ
 plainNumbers r = numbered (answerNumber (r .answer)) (r .settings)
+
+-- package out: the slice has the bytes
+abbrev pub packedNumbers : PackedReply → Numbered ℕ
+packedNumbers r = numbered (packedNumber (packedGiven (r .answer))) (r .bytes)
 
 -- ---- turn and drain: the slice has the values of the answer
 

@@ -1,14 +1,15 @@
 // Answers as numbers: the answer bytes of a package, and what programs in other languages get.
 use model::Answer;
 use model::Drained;
+use model::Packed;
 use model::Standing;
 use model::Turned;
 use model::Value;
 ghost use mathlib.Core.Path.{_≡_};
 ghost use Prim.Native.Nat.{_<_};
 ghost use lib.ListN.{length};
-ghost use Rattle.model.specs.Calls.{turnedGiven, drainedGiven, valueGiven, standingGiven, numberGiven, answerNumber};
-ghost use Rattle.answer_numbers.specs.Numbers.{valueNumber, standingNumber, turnedNumber, numbered, givenNumbers};
+ghost use Rattle.model.specs.Calls.{turnedGiven, drainedGiven, valueGiven, standingGiven, packedGiven, numberGiven, answerNumber};
+ghost use Rattle.answer_numbers.specs.Numbers.{valueNumber, standingNumber, packedNumber, turnedNumber, numbered, givenNumbers};
 
 // 0 done, 255 held already, else the refusal.
 pub fn answer_number(answer: Answer) -> u8
@@ -38,6 +39,16 @@ pub fn standing_number(standing: Standing) -> u32
     match standing {
         Standing::At(status, flag) => status as u32 + flag as u32 * 256,
         Standing::Refused(refusal) => 65536 + refusal as u32,
+    }
+}
+
+// The length of a package, or 65,536 + the refusal.
+pub fn packed_number(packed: Packed) -> u32
+    ensures { λ r. ⌜ r ≡ packedNumber (packedGiven packed) ⌝ }
+{
+    match packed {
+        Packed::Length(size) => size as u32,
+        Packed::Refused(refusal) => 65536 + refusal as u32,
     }
 }
 

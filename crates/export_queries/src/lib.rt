@@ -1,7 +1,9 @@
 // The calls that alter no table for programs in other languages, as a static library. Each answer is one number.
 use answer_numbers::answer_number;
+use answer_numbers::packed_number;
 use answer_numbers::standing_number;
 use answer_numbers::value_number;
+use package_out::package_out;
 use queries::current_value;
 use queries::plain_run;
 use queries::standing;
@@ -9,8 +11,8 @@ use queries::start_values;
 use queries::value_as_of;
 ghost use mathlib.Core.Path.{_≡_};
 ghost use Rattle.model.specs.Tables.{tables};
-ghost use Rattle.model.specs.Calls.{valueGiven, standingGiven, currentValue, valueAsOf, standing, plainRun, startValues};
-ghost use Rattle.answer_numbers.specs.Numbers.{valueNumber, standingNumber, numbered, plainNumbers};
+ghost use Rattle.model.specs.Calls.{valueGiven, standingGiven, currentValue, valueAsOf, standing, plainRun, startValues, packageOut};
+ghost use Rattle.answer_numbers.specs.Numbers.{valueNumber, standingNumber, numbered, plainNumbers, packedNumbers};
 
 // The current value of a setting, or its refusal, as a number.
 #[no_mangle]
@@ -203,6 +205,54 @@ pub extern "C" fn tolbezun_plain_run(
         written,
         view,
         settings,
+    ))
+}
+
+// Package out: the length of the package, or its refusal, as a number.
+#[no_mangle]
+pub extern "C" fn tolbezun_package_out(
+    n: usize,
+    held: &[u16],
+    timestamps: &[u64],
+    order: &[u16],
+    status: &[u16],
+    withdrawn: &[u16],
+    lengths: &[u16],
+    programs: &[u8],
+    reads: &[u16],
+    writes: &[u16],
+    sources: &[u16],
+    seen: &[i32],
+    targets: &[u16],
+    written: &[i32],
+    view: &[i32],
+    bytes: &mut [u8],
+) -> u32
+    ensures { λ r. ⌜
+        (let T =
+        tables (now (held .entry)) (now (timestamps .entry)) (now (order .entry)) (now (status .entry)) (now (withdrawn .entry))
+        (now (lengths .entry)) (now (programs .entry)) (now (reads .entry)) (now (writes .entry)) (now (sources .entry))
+        (now (seen .entry)) (now (targets .entry)) (now (written .entry)) (now (view .entry)) in
+        numbered r (now (bytes .exit)) ≡ packedNumbers (packageOut n T (now (bytes .entry))))
+        ⌝ }
+{
+    packed_number(package_out(
+        n,
+        held,
+        timestamps,
+        order,
+        status,
+        withdrawn,
+        lengths,
+        programs,
+        reads,
+        writes,
+        sources,
+        seen,
+        targets,
+        written,
+        view,
+        bytes,
     ))
 }
 

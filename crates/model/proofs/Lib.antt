@@ -20,3 +20,4 @@ pub mod Encode
 pub mod Decode
 pub mod Form
 pub mod Restated
+pub mod Packing

@@ -1,10 +1,11 @@
--- The book of held changes, and the fresh run over it (document 01, "Demand 3 spelled out").
+-- The book of held changes, the fresh run over it (document 01, "Demand 3 spelled out"), and the items that give it (document 02, R-3).
 use mathlib.Core.Bool.{Bool, true, false, cond}
-use mathlib.Core.List.{List, [], _∷_, map}
+use mathlib.Core.List.{List, [], _∷_, _++_, map}
 use Prim.Native.Nat.{ℕ}
 use lib.Dec.{eqb, ltb}
 use Rattle.machine.specs.Settings.{Environment, after}
 use Rattle.model.specs.History.{Lists, empty, runLists, Change, change, History}
+use Rattle.model.specs.Package.{Item, taking, withdrawing}
 
 -- a change in the book: timestamp, program, withdrawn or not
 pub data Booked : Type 0 where
@@ -59,3 +60,20 @@ freshEnd (b ∷ book) env = freshEnd book (freshAfter b env)
 abbrev pub freshBefore : ℕ → Book → Environment → Environment
 freshBefore t [] env = env
 freshBefore t (b ∷ book) env = cond (ltb (bookedAt b) t) (freshBefore t book (freshAfter b env)) env
+
+-- ---- as items of a package
+
+-- every change, a withdrawn one too, by rising timestamp
+abbrev pub takings : Book → List Item
+takings [] = []
+takings (booked t p w ∷ book) = taking t p ∷ takings book
+
+-- a withdrawal of each withdrawn change, by rising timestamp
+abbrev pub withdrawals : Book → List Item
+withdrawals [] = []
+withdrawals (booked t p true ∷ book) = withdrawing t ∷ withdrawals book
+withdrawals (booked t p false ∷ book) = withdrawals book
+
+-- "Write all held changes by rising timestamp, then the withdrawals by rising timestamp" (document 02, R-3)
+abbrev pub bookedItems : Book → List Item
+bookedItems book = takings book ++ withdrawals book

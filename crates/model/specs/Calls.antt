@@ -19,14 +19,16 @@ use Rattle.model.specs.declared.Value.{Value}
 use Rattle.model.specs.declared.Value.the-variants as value-answer
 use Rattle.model.specs.declared.Standing.{Standing}
 use Rattle.model.specs.declared.Standing.the-variants as standing-answer
+use Rattle.model.specs.declared.Packed.{Packed}
+use Rattle.model.specs.declared.Packed.the-variants as packed-answer
 use Rattle.model.specs.History.{start, Change, status, withdrawn, asOf, allSettings}
 use Rattle.model.specs.Figure.{Event, ran, stood, cleared, Step, idle, turned, round}
 use Rattle.model.specs.Drain.{Drain, drainHistory, totals}
 use Rattle.model.specs.Cabinet.{Cabinet, emptyCabinet, historyOf, withHistory, find, add, remove}
 use Rattle.model.specs.Tables.{Tables, statusNumber, flagNumber, encode, decode}
-use Rattle.model.specs.Refusals.{test, firstOf, wrongLengths, wrongLength, notInForm, faultOf, noTimestamp, noTime, noSetting, wrongProgramLength, malformed, isHeld, heldOtherwise, full, notHeld, withdrawnAlready}
-use Rattle.model.specs.Package.{Item, taking, withdrawing, layoutFits, itemsOf}
-use Rattle.model.specs.Book.{bookOf, freshEnd}
+use Rattle.model.specs.Refusals.{test, firstOf, wrongLengths, wrongLength, notInForm, faultOf, noTimestamp, noTime, noSetting, wrongProgramLength, malformed, isHeld, heldOtherwise, full, notHeld, withdrawnAlready, noRoom}
+use Rattle.model.specs.Package.{Item, taking, withdrawing, layoutFits, itemsOf, packageOf}
+use Rattle.model.specs.Book.{bookOf, freshEnd, bookedItems}
 
 -- ---- answers (document 01, last sentence: "a definition gives this paper's number and values for each of its cases")
 
@@ -64,6 +66,11 @@ valueGiven (value-answer.Refused r) = refused r
 abbrev pub standingGiven : Standing → Given
 standingGiven (standing-answer.At s f) = given 0 (pos s ∷ pos f ∷ [])
 standingGiven (standing-answer.Refused r) = refused r
+
+-- the length of the package
+abbrev pub packedGiven : Packed → Given
+packedGiven (packed-answer.Length size) = given 0 (pos size ∷ [])
+packedGiven (packed-answer.Refused r) = refused r
 
 -- the number of a refusal or of a case
 abbrev pub numberGiven : Given → ℕ
@@ -245,6 +252,29 @@ plainRun n T settings =
     let r = firstOf (wrongLength n T (length settings) settingCount ∷ notInForm n T ∷ []) in
     cond (eqb r 0) (record { answer = answer.Done; settings = allSettings (freshEnd (bookOf (historyOf (decode T))) start) })
     (record { answer = answer.Refused r; settings = settings })
+
+-- ---- package out
+
+-- what tables hold, as the items of a package: held changes, then withdrawals
+abbrev pub heldItems : Tables → List Item
+heldItems T = bookedItems (bookOf (historyOf (decode T)))
+
+-- its reply has the lent slice of bytes
+pub record PackedReply : Type 0 where
+  pub answer : Packed
+  pub bytes : List ℕ
+
+abbrev pub packedReply : Packed → List ℕ → PackedReply
+packedReply a bytes = record { answer = a; bytes = bytes }
+
+-- document 02, R-3: "as one package"; "The written length is returned and later bytes of the lent slice keep their contents. Refusal 12, last in the order"
+unfoldable pub packageOut : ℕ → Tables → List ℕ → PackedReply
+packageOut n T bytes =
+    let items = heldItems T in
+    let written = packageOf items in
+    let r = firstOf (wrongLengths n T ∷ notInForm n T ∷ noRoom (length items) (length written) (length bytes) ∷ []) in
+    cond (eqb r 0) (record { answer = packed-answer.Length (length written); bytes = written ++ drop (length written) bytes })
+    (record { answer = packed-answer.Refused r; bytes = bytes })
 
 -- ---- the start values
 

@@ -1,4 +1,4 @@
--- Document 01's cases P1 to P11 and its package ("Cases to know"), with the start values of document 02 (R-1), carried out by the definitions of the calls. The table is proved by computation.
+-- Document 01's cases P1 to P11 and its package ("Cases to know"), with the start values of document 02 (R-1), carried out by the definitions of the calls; and what package out writes then (R-3). The table is proved by computation.
 use mathlib.Core.Path.{_≡_, refl}
 use mathlib.Core.Bool.{Bool, true, false, _&&_}
 use mathlib.Core.List.{List, [], _∷_, _++_, map}
@@ -22,14 +22,15 @@ use Rattle.model.specs.declared.Value.{Value}
 use Rattle.model.specs.declared.Value.the-variants.{Is}
 use Rattle.model.specs.declared.Standing.{Standing}
 use Rattle.model.specs.declared.Standing.the-variants.{At}
+use Rattle.model.specs.declared.Packed.the-variants as packed-answer
 use Rattle.model.specs.History.{start, runLists}
 use Rattle.model.specs.Figure.{round}
 use Rattle.model.specs.Drain.{drainFor, drainHistory}
 use Rattle.model.specs.Tables.{Tables, pad, encode, decode}
 use Rattle.model.specs.Form.{lengthsFit, inForm}
 use Rattle.model.specs.Refusals.{sameBytes}
-use Rattle.model.specs.Package.{numberAt, countBefore, layoutFits, itemsOf}
-use Rattle.model.specs.Calls.{Reply, setUp, itemAnswer, ifDone, takeIn, withdraw, takeInPackage, turn, drain, currentValue, valueAsOf, standing}
+use Rattle.model.specs.Package.{numberAt, countBefore, layoutFits, itemsOf, packageOf}
+use Rattle.model.specs.Calls.{Reply, setUp, itemAnswer, ifDone, takeIn, withdraw, takeInPackage, turn, drain, currentValue, valueAsOf, standing, PackedReply, packedReply, packageOut}
 use Rattle.model.specs.Log.{drainTurns}
 
 -- ---- programs
@@ -70,11 +71,12 @@ data Action : Type 0 where
   turns : Turned → Action
   drains : List Turned → Drained → Action
 
--- what a call answers after the last drain: the current value of s, the value as of t of s, the standing of t
+-- what a call answers after the last drain: the current value of s, the value as of t of s, the standing of t, package out into so many zeros
 data Fact : Type 0 where
   current : ℕ → Value → Fact
   asOf : ℕ → ℕ → Value → Fact
   stands : ℕ → Standing → Fact
+  packs : ℕ → PackedReply → Fact
 
 -- the steps before the last drain, the turns of that drain, its answer, and what holds after it
 record Case : Type 0 where
@@ -90,6 +92,10 @@ counted n m k f = Counted (record { ran = n; stood = m; cleared = k; faulted = f
 -- a drain with its turns, all of which ran
 abbrev drainsRunning : List ℕ → Action
 drainsRunning timestamps = drains (map Ran timestamps) (counted (length timestamps) 0 0 0)
+
+-- an entry of a package's contents, stamped below 256
+abbrev listed : ℕ → ℕ → ℕ → List ℕ
+listed t kind count = t ∷ (replicate 7 0 ++ (kind ∷ count ∷ 0 ∷ 0 ∷ []))
 
 -- nothing held: no turns
 P1 : Case
@@ -156,14 +162,19 @@ P7 =
       facts = current 50 (Is (pos 1)) ∷ stands 30 (At 1 0) ∷ [];
     }
 
--- 10 sets 34 to 7 and 40 to 3, drained, withdrawn: cleared; both are back where they start, 34 at 1 and 40 at 0
+-- 10 sets 34 to 7 and 40 to 3, drained, withdrawn: cleared; both are back where they start, 34 at 1 and 40 at 0. Written out, 10 stands as a change and as a withdrawal
 P8 : Case
 P8 =
     record {
       script = takesIn 10 (sets 34 (pos 7) ++ sets 40 (pos 3)) ∷ drainsRunning (10 ∷ []) ∷ withdraws 10 ∷ [];
       turned = Cleared 10 ∷ [];
       answer = counted 0 0 1 0;
-      facts = current 34 (Is (pos 1)) ∷ current 40 (Is (pos 0)) ∷ stands 10 (At 1 1) ∷ [];
+      facts =
+          current 34 (Is (pos 1))
+          ∷ current 40 (Is (pos 0))
+          ∷ stands 10 (At 1 1)
+          ∷ packs 58 (packedReply (packed-answer.Length 58) (2 ∷ 0 ∷ (listed 10 0 4 ++ listed 10 1 0 ++ bytesOf (sets 34 (pos 7) ++ sets 40 (pos 3)))))
+          ∷ [];
     }
 
 -- 10 writes 34 twice, the second time by its fourth instruction: it faults at place 3 and writes nothing; 34 stays where it starts, at 1
@@ -221,11 +232,7 @@ P11-after =
       facts = current 36 (Is (negsuc 99)) ∷ current 37 (Is (pos 1)) ∷ [];
     }
 
--- an entry of a package's contents, stamped below 256
-abbrev listed : ℕ → ℕ → ℕ → List ℕ
-listed t kind count = t ∷ (replicate 7 0 ++ (kind ∷ count ∷ 0 ∷ 0 ∷ []))
-
--- the package of 70 bytes: 20 (copy 34 to 50), 10 (set 34 to 7), withdrawal of 15: taken, taken, refused 10; 10 and 20 ran; 34 and 50 are 7
+-- the package of 70 bytes: 20 (copy 34 to 50), 10 (set 34 to 7), withdrawal of 15: taken, taken, refused 10; 10 and 20 ran; 34 and 50 are 7. Written out, 10 stands before 20 in 58 bytes
 sample-package : Case
 sample-package =
     record {
@@ -234,7 +241,12 @@ sample-package =
           ∷ [];
       turned = Ran 10 ∷ Ran 20 ∷ [];
       answer = counted 2 0 0 0;
-      facts = current 34 (Is (pos 7)) ∷ current 50 (Is (pos 7)) ∷ [];
+      facts =
+          current 34 (Is (pos 7))
+          ∷ current 50 (Is (pos 7))
+          ∷ packs 60 (packedReply (packed-answer.Length 58) (2 ∷ 0 ∷ (listed 10 0 2 ++ listed 20 0 2 ++ bytesOf (sets 34 (pos 7) ++ copies 34 50) ++ (0 ∷ 0 ∷ []))))
+          ∷ packs 57 (packedReply (packed-answer.Refused 12) (replicate 57 0))
+          ∷ [];
     }
 
 cases : List Case
@@ -314,6 +326,7 @@ abbrev asked : Tables → Fact → Fact
 asked T (current s v) = current s (currentValue capacity T s)
 asked T (asOf t s v) = asOf t s (valueAsOf capacity T t s)
 asked T (stands t v) = stands t (standing capacity T t)
+asked T (packs k r) = packs k (packageOut capacity T (replicate k 0))
 
 -- what carrying out a case gives: whether the script's items were answered as they are to be, its turns and drains as answered, the turns of the last drain, its answer, and the facts
 record Outcome : Type 0 where
@@ -339,5 +352,5 @@ expected : Case → Outcome
 expected c = record { done = true; answered = toAnswer (c .script); turned = c .turned; answer = c .answer; facts = c .facts }
 
 cases-hold : map outcome cases ≡ map expected cases
-unfolding cases P1 P2 P3 P4 P5 P6 P7 P8 P9 P10 P11-before P11-after sample-package outcome expected setUp takeIn withdraw takeInPackage turn drain currentValue valueAsOf standing itemAnswer layoutFits itemsOf numberAt countBefore encode decode lengthsFit inForm drainHistory drainFor round start startTable runLists run runProgram runFrom step perform effect load store enter named lookup entries lengthFits wellFormed allBelow isWellFormed programOf instructionsFrom instructionAt shiftRight patternOf numberOf wrap floorDiv onesOf onesIn
+unfolding cases P1 P2 P3 P4 P5 P6 P7 P8 P9 P10 P11-before P11-after sample-package outcome expected setUp takeIn withdraw takeInPackage turn drain currentValue valueAsOf standing packageOut packageOf itemAnswer layoutFits itemsOf numberAt countBefore encode decode lengthsFit inForm drainHistory drainFor round start startTable runLists run runProgram runFrom step perform effect load store enter named lookup entries lengthFits wellFormed allBelow isWellFormed programOf instructionsFrom instructionAt shiftRight patternOf numberOf wrap floorDiv onesOf onesIn
 cases-hold = refl

@@ -1,7 +1,7 @@
--- The layout of a package, and the changes and withdrawals that it holds (document 01, "Calls", refusal 3).
+-- The layout of a package, the changes and withdrawals that it holds (document 01, "Calls", refusal 3), and the package of given ones (document 02, R-3).
 use mathlib.Core.Bool.{Bool, cond, _||_}
-use mathlib.Core.List.{List, [], _∷_}
-use Prim.Native.Nat.{ℕ, zero, suc, _+_, _*_}
+use mathlib.Core.List.{List, [], _∷_, _++_}
+use Prim.Native.Nat.{ℕ, zero, suc, _+_, _*_, _/_, _%_}
 use lib.Dec.{eqb, leb}
 use lib.ListN.{length, getD, take, drop}
 use Rattle.machine.specs.Form.{allBelow}
@@ -73,3 +73,33 @@ itemAt bytes j =
 
 unfoldable pub itemsOf : List ℕ → List Item
 itemsOf bytes = tabulate (entryCount bytes) (itemAt bytes)
+
+-- ---- the package of some items, laid out as above
+
+-- a number in so many bytes, low byte first
+abbrev pub numberBytes : ℕ → ℕ → List ℕ
+numberBytes zero number = []
+numberBytes (suc k) number = number % 256 ∷ numberBytes k (number / 256)
+
+-- an entry: timestamp (8), kind, instruction count, two zero bytes
+abbrev pub entryBytes : ℕ → ℕ → ℕ → List ℕ
+entryBytes t kind count = numberBytes 8 t ++ (kind ∷ count ∷ 0 ∷ 0 ∷ [])
+
+-- kind 0 change or 1 withdrawal
+abbrev pub itemEntry : Item → List ℕ
+itemEntry (taking t p) = entryBytes t 0 (length p / 8)
+itemEntry (withdrawing t) = entryBytes t 1 0
+
+-- a change's body is its program
+abbrev pub itemBody : Item → List ℕ
+itemBody (taking t p) = p
+itemBody (withdrawing t) = []
+
+-- the pieces of the elements of a list, without gaps
+abbrev pub joined : {A : Type 0} → (A → List ℕ) → List A → List ℕ
+joined piece [] = []
+joined piece (x ∷ l) = piece x ++ joined piece l
+
+-- the number of entries, the entries, the bodies
+unfoldable pub packageOf : List Item → List ℕ
+packageOf items = numberBytes 2 (length items) ++ joined itemEntry items ++ joined itemBody items

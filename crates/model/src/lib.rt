@@ -43,3 +43,9 @@ pub enum Standing {
     At(u16, u16),
     Refused(u8),
 }
+
+// Package out: the length of what is written.
+pub enum Packed {
+    Length(u16),
+    Refused(u8),
+}

@@ -1,3 +1,3 @@
-pub mod Below
+pub mod Values
 pub mod Turning
 pub mod Outcomes

@@ -1,10 +1,11 @@
 -- What the cabinet program prints of the reply to a package (document 01, "Cases to know").
 use mathlib.Core.Bool.{cond}
 use mathlib.Core.List.{List, [], _∷_, _++_}
-use Prim.Native.Nat.{ℕ, zero, suc}
+use Prim.Native.Nat.{ℕ}
 use lib.Dec.{eqb}
 use lib.IntN.{ℤ}
 use lib.ListN.{getD}
+use Rattle.text.specs.Pieces.{piecesBelow}
 use Rattle.machine.specs.Settings.{settingCount, valueIn}
 use Rattle.model.specs.declared.Turned.{Turned}
 use Rattle.model.specs.History.{start}
@@ -17,17 +18,12 @@ use Rattle.lines.specs.Lines.{packageLine, entryLine, turnLine, settingLine}
 abbrev pub capacity : ℕ
 capacity = 128
 
--- the first so many lines, by rising number
-abbrev pub linesBelow : ℕ → (ℕ → List ℕ) → List ℕ
-linesBelow zero line = []
-linesBelow (suc n) line = linesBelow n line ++ line n
-
 -- entry j of a package, with the number of its answer; all entries
 abbrev pub entryOf : List ℕ → List ℕ → ℕ → List ℕ
 entryOf bytes answers j = entryLine j (kindOf bytes j) (getD answers j 0)
 
 unfoldable pub entryLines : List ℕ → List ℕ → List ℕ
-entryLines bytes answers = linesBelow (entryCount bytes) (entryOf bytes answers)
+entryLines bytes answers = piecesBelow (entryCount bytes) (entryOf bytes answers)
 
 -- turns, as single turns answer them
 abbrev pub turnLines : List Turned → List ℕ
@@ -39,7 +35,7 @@ abbrev pub settingOf : List ℤ → ℕ → List ℕ
 settingOf view s = settingLine s (start s) (valueIn view s)
 
 unfoldable pub settingLines : List ℤ → List ℕ
-settingLines view = linesBelow settingCount (settingOf view)
+settingLines view = piecesBelow settingCount (settingOf view)
 
 -- a package's reply, and the turns and the view of the drain after it; a refused package has its one line
 abbrev pub replyLines : List ℕ → PackageReply → List ℕ

@@ -1,7 +1,7 @@
 -- Text as bytes, and pieces of text put into a buffer.
 use mathlib.Core.Path.{_≡_}
 use mathlib.Core.List.{List, [], _∷_, _++_}
-use Prim.Native.Nat.{ℕ, _+_}
+use Prim.Native.Nat.{ℕ, zero, suc, _+_}
 use Prim.Native.Char.{code}
 use Prim.Native.String.{String}
 use Prim.Native.String as string
@@ -20,3 +20,8 @@ withPiece at piece buffer = take at buffer ++ piece ++ drop (at + length piece) 
 pub record Put (at : ℕ) (piece before after : List ℕ) (end : ℕ) : Type 0 where
   pub ends : end ≡ at + length piece
   pub holds : after ≡ withPiece at piece before
+
+-- the first so many pieces, by rising number
+abbrev pub piecesBelow : ℕ → (ℕ → List ℕ) → List ℕ
+piecesBelow zero piece = []
+piecesBelow (suc n) piece = piecesBelow n piece ++ piece n

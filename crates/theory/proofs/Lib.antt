@@ -9,3 +9,6 @@ pub mod Reached
 pub mod AnyTables
 pub mod Demand
 pub mod Faults
+pub mod ReadBack
+pub mod Filling
+pub mod Packages

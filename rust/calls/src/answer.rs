@@ -9,6 +9,7 @@
 //! | `value V` | `current`, `value_as_of` |
 //! | `standing STATUS FLAG` | `standing`: 0 New, 1 Valid, 2 Invalid; 1 withdrawn, else 0 |
 //! | `done answers [a, b, ..]` | `take_in_package`: for each entry 0 done, 255 already held, else the refusal |
+//! | `length N HEX` | `package_out`: HEX is the N bytes written, as pairs of lower-case hexadecimal digits |
 //! | `done [v, v, ..]` | `plain_run`, `start_values`: the 1,024 settings |
 //! | one line of JSON | `tables`: an object of fourteen lists |
 //! | `refused R` | all but `start_values`, `tables` and `load` |
@@ -28,7 +29,7 @@ pub struct Runner {
 /// Why a line is not carried out although it is a call.
 #[derive(Debug)]
 pub enum Error {
-    /// There is no room for an answer slice of this length.
+    /// There is no room for a lent slice of so many bytes.
     Room(usize),
     /// The file to load cannot be read.
     File(String, io::Error),
@@ -39,7 +40,7 @@ pub enum Error {
 impl fmt::Display for Error {
     fn fmt(&self, f: &mut fmt::Formatter<'_>) -> fmt::Result {
         match self {
-            Self::Room(length) => write!(f, "there is no room for {length} answers"),
+            Self::Room(length) => write!(f, "there is no room for {length} bytes"),
             Self::File(file, error) => write!(f, "cannot read {}: {error}", Quoted(file)),
             Self::Contents(file, error) => {
                 write!(f, "{} does not hold tables: {error}", Quoted(file))
@@ -91,6 +92,11 @@ impl Runner {
                     format!("done answers {answers:?}")
                 })
             }
+            Call::PackageOut { length } => {
+                let mut package = zeros(length)?;
+                calls::package_out(n, tables, &mut package)
+                    .map(|length| format!("length {length} {}", Hex(&package[..length])))
+            }
             Call::PlainRun => {
                 let mut settings = [0; SETTINGS];
                 calls::plain_run(n, tables, &mut settings).map(|()| format!("done {settings:?}"))
@@ -139,6 +145,15 @@ fn totals(totals: Totals) -> String {
 
 fn value(value: i32) -> String {
     format!("value {value}")
+}
+
+/// Shows bytes as pairs of hexadecimal digits.
+struct Hex<'a>(&'a [u8]);
+
+impl fmt::Display for Hex<'_> {
+    fn fmt(&self, f: &mut fmt::Formatter<'_>) -> fmt::Result {
+        self.0.iter().try_for_each(|byte| write!(f, "{byte:02x}"))
+    }
 }
 
 fn refused(refusal: Refusal) -> String {

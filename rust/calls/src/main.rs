@@ -31,6 +31,7 @@ current S                   value V
 value_as_of TS S            value V
 standing TS                 standing STATUS FLAG
 take_in_package HEX [lenL]  done answers [a, b, ..], for the entries
+package_out L               length N HEX, the N bytes of the package
 plain_run                   done [v, v, ..], for the 1,024 settings
 start_values                done [v, v, ..], the value that each setting starts at
 tables                      the tables, one line of JSON
@@ -38,8 +39,8 @@ load FILE                   done; FILE has tables as `tables` prints them
 
 TS is a timestamp, S a setting, HEX bytes as pairs of hexadecimal digits, or - for
 none. PLACE is that of the instruction that broke off, counted from 0. With lenL an
-answer slice of L zeros is lent instead of 512. Empty lines and lines that start
-with # are passed over.
+answer slice of L zeros is lent instead of 512; package_out is lent L zeros. Empty
+lines and lines that start with # are passed over.
 
 A line that cannot be read ends the run with a message and exit status 1, wrong
 arguments with status 2.

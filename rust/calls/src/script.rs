@@ -14,13 +14,14 @@
 //! | `value_as_of TS S` | value of a setting as of a timestamp |
 //! | `standing TS` | standing of a timestamp |
 //! | `take_in_package HEX [lenL]` | take in a package; with `lenL`, for example `len511`, an answer slice of that length is lent instead of 512 |
+//! | `package_out L` | package out; a slice of L zero bytes is lent |
 //! | `plain_run` | plain run |
 //! | `start_values` | start values |
 //! | `tables` | no call: the tables as they stand |
 //! | `load FILE` | no call: the calls after it are lent the tables of this file |
 //!
-//! `TS` is a number of 64 bits and `S` one of the machine's size, both in decimal digits alone. `HEX`
-//! is the bytes as pairs of hexadecimal digits, or `-` for none.
+//! `TS` is a number of 64 bits, `S` and `L` are numbers of the machine's size, all in decimal
+//! digits alone. `HEX` is the bytes as pairs of hexadecimal digits, or `-` for none.
 
 use std::fmt;
 use std::str::{self, FromStr};
@@ -53,6 +54,10 @@ pub enum Call {
     TakeInPackage {
         package: Vec<u8>,
         answers: Option<usize>,
+    },
+    /// `length` is that of the slice to lend.
+    PackageOut {
+        length: usize,
     },
     PlainRun,
     StartValues,
@@ -157,7 +162,10 @@ pub fn read(line: &[u8]) -> Result<Option<Call>, Error> {
         },
         "take_in_package" => Call::TakeInPackage {
             package: arguments.bytes()?,
-            answers: arguments.length()?,
+            answers: arguments.answers()?,
+        },
+        "package_out" => Call::PackageOut {
+            length: arguments.length()?,
         },
         "plain_run" => Call::PlainRun,
         "start_values" => Call::StartValues,
@@ -205,7 +213,11 @@ impl<'a, W: Iterator<Item = &'a str>> Arguments<W> {
         }
     }
 
-    fn length(&mut self) -> Result<Option<usize>, Error> {
+    fn length(&mut self) -> Result<usize, Error> {
+        number("L", self.word("L")?)
+    }
+
+    fn answers(&mut self) -> Result<Option<usize>, Error> {
         let Some(word) = self.0.next() else {
             return Ok(None);
         };

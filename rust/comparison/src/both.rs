@@ -1,6 +1,7 @@
 //! The calls, made on the proved library and on the outside implementation, and compared.
 
 use crate::generate::{packages, Random};
+use crate::packages_out::Size;
 use crate::proved::calls as proved;
 use outside::calls::{self, Refusal, Standing};
 use outside::checker::{self, Totals, Turn};
@@ -18,6 +19,8 @@ pub enum Query {
     ValueAsOf(u64, usize),
     Standing(u64),
     /// With a lent slice of this length.
+    PackageOut(usize),
+    /// With a lent slice of this length.
     PlainRun(usize),
 }
 
@@ -27,6 +30,8 @@ pub enum Query {
 pub enum Answer {
     Value(i32),
     Standing(Standing),
+    /// What package out writes to the lent slice.
+    Package(Vec<u8>),
     /// What the plain run leaves in the lent slice.
     Settings(Vec<i32>),
 }
@@ -150,6 +155,10 @@ impl Both {
                 proved::standing(n, proved, timestamp).map(Answer::Standing),
                 calls::standing(n, outside, timestamp).map(Answer::Standing),
             ),
+            Query::PackageOut(length) => (
+                written(length, |lent| proved::package_out(n, proved, lent)),
+                written(length, |lent| package::package_out(n, outside, lent)),
+            ),
             Query::PlainRun(length) => {
                 let given = vec![0x5A5A_5A5A; length];
                 let (mut left, mut left_outside) = (given.clone(), given.clone());
@@ -170,6 +179,15 @@ impl Both {
         by_proved
     }
 
+    /// What package out writes, lent a slice of this length.
+    #[track_caller]
+    pub fn package_out(&self, room: usize) -> Result<Vec<u8>, u8> {
+        match self.ask(Query::PackageOut(room))? {
+            Answer::Package(package) => Ok(package),
+            answer => panic!("{answer:?} of package out"),
+        }
+    }
+
     /// Makes every call that only reads, with this timestamp and this setting.
     #[track_caller]
     pub fn ask_all(&self, timestamp: u64, setting: usize) {
@@ -177,6 +195,7 @@ impl Both {
             Query::CurrentValue(setting),
             Query::ValueAsOf(timestamp, setting),
             Query::Standing(timestamp),
+            Query::PackageOut(Size::of(&self.outside).bytes),
             Query::PlainRun(SETTINGS),
         ] {
             let _ = self.ask(query);
@@ -196,6 +215,8 @@ impl Both {
             Query::ValueAsOf(random.pick(&[0, held]), SETTINGS),
             Query::Standing(held),
             Query::Standing(random.pick(&[0, INFINITY])),
+            Query::PackageOut(packages::room(random, &self.outside)),
+            Query::PackageOut(0),
             Query::PlainRun(SETTINGS),
         ] {
             assert_eq!(self.ask(query), Err(refusal), "{query:?} on {self:?}");
@@ -257,6 +278,25 @@ impl Debug for Both {
             .field("writes", &self.outside.writes)
             .finish_non_exhaustive()
     }
+}
+
+/// What a call writes to the first of so many bytes. It must leave the later ones as they were, and
+/// all where it is refused.
+#[track_caller]
+fn written<E: Debug>(
+    length: usize,
+    call: impl FnOnce(&mut [u8]) -> Result<usize, E>,
+) -> Result<Answer, E> {
+    let given: Vec<u8> = (0..length).map(|index| 1 + (index % 255) as u8).collect();
+    let mut left = given.clone();
+    let written = call(&mut left);
+    let first = *written.as_ref().unwrap_or(&0);
+    assert!(
+        left[first..] == given[first..],
+        "{written:?} bytes are written, and later ones altered"
+    );
+    left.truncate(first);
+    written.map(|_| Answer::Package(left))
 }
 
 #[track_caller]

@@ -1,10 +1,11 @@
 //! The proved library and the outside implementation, compared from outside.
 //!
 //! The tests run random and chosen programs through both interpreters, make the calls of both on
-//! random and chosen tables and in random lists, check demand 3 after each drain of such a list, and
-//! run the program `cabinet`. Random tests are made with a fixed seed and with a new one ([`seeds`]).
-//! The program `bench` times the calls as the history grows, single turns, drains beside plain runs,
-//! the test of the tables' form and the interpreters:
+//! random and chosen tables and in random lists, check demand 3 after each drain of such a list,
+//! fill cabinets from the packages of others, and run the program `cabinet`. Random tests are made
+//! with a fixed seed and with a new one ([`seeds`]). The program `bench` times the calls as the
+//! history grows, single turns, drains beside plain runs, the test of the tables' form and the
+//! interpreters:
 //!
 //! ```text
 //! cargo test --profile checked --offline
@@ -15,6 +16,7 @@
 
 pub mod both;
 pub mod generate;
+pub mod packages_out;
 pub mod proved;
 pub mod reached;
 pub mod seeds;

@@ -11,7 +11,7 @@ use comparison::seeds::{count_reached, with_seeds};
 use comparison::turns::{self, DrainEvent, TurnEvent};
 use outside::checker::{Totals, Turned};
 use outside::intake::Taken;
-use outside::package::ANSWERS;
+use outside::package::{lay_out, ANSWERS};
 use outside::program::{Fault, MAX_INSTRUCTIONS};
 use outside::tables::{in_form, INFINITY, LIST_ENTRIES, MAX_CAPACITY};
 
@@ -294,7 +294,7 @@ fn changes_and_packages_taken_in_and_withdrawals_leave_the_same_tables() {
             }),
             _ => {
                 let entries = packages::entries(random, &held);
-                let mut package = packages::lay_out(&entries);
+                let mut package = lay_out(&entries);
                 if random.below(4) == 0 {
                     package.pop();
                 }

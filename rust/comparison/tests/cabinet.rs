@@ -1,10 +1,10 @@
 //! The program `cabinet` against the outside implementation's listing.
 
-use comparison::generate::packages::{self, lay_out, Breach};
+use comparison::generate::packages::{self, Breach};
 use comparison::generate::scripts::Source;
 use comparison::seeds::with_seeds;
 use outside::cabinet::{listing, CAPACITY};
-use outside::package::{Entry, MAX_BYTES};
+use outside::package::{lay_out, Entry, MAX_BYTES};
 use outside::program::{op, Instruction};
 use std::io::Write;
 use std::process::{Command, Stdio};

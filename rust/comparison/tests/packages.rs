@@ -1,11 +1,11 @@
 //! The proved taking in of packages against the outside implementation.
 
 use comparison::both::Both;
-use comparison::generate::packages::{self, lay_out, Breach};
+use comparison::generate::packages::{self, Breach};
 use comparison::generate::Random;
 use comparison::seeds::{count_reached, with_seeds};
 use outside::package::{
-    entries, Entry, ALREADY_HELD, ANSWERS, DONE, ENTRY_BYTES, MAX_BYTES, MAX_ENTRIES,
+    entries, lay_out, Entry, ALREADY_HELD, ANSWERS, DONE, ENTRY_BYTES, MAX_BYTES, MAX_ENTRIES,
 };
 use outside::program::{INSTRUCTION_BYTES, MAX_INSTRUCTIONS};
 use outside::tables::{Tables, INFINITY};

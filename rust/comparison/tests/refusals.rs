@@ -1,11 +1,12 @@
 //! The checking order: where an input meets two refusals of a call, the first of them is the answer.
 
 use comparison::both::{Both, Query};
-use comparison::generate::packages::{self, lay_out};
+use comparison::generate::packages;
 use comparison::generate::tables::{self as random_tables, Breach, List, Table};
 use comparison::generate::{self, Random, Style};
+use comparison::packages_out::Size;
 use comparison::seeds::with_seeds;
-use outside::package::{entries, Entry, ANSWERS};
+use outside::package::{entries, lay_out, Entry, ANSWERS, MAX_BYTES, MAX_ENTRIES};
 use outside::program::{self, op, INSTRUCTION_BYTES, MAX_INSTRUCTIONS, SETTINGS};
 use outside::tables::{check_lengths, in_form, Tables, INFINITY, PROGRAM_BYTES};
 
@@ -42,11 +43,12 @@ enum Call {
     CurrentValue,
     ValueAsOf,
     Standing,
+    PackageOut,
     PlainRun,
 }
 
 impl Call {
-    const ALL: [Self; 9] = [
+    const ALL: [Self; 10] = [
         Self::TakeIn,
         Self::Withdraw,
         Self::TakeInPackage,
@@ -55,6 +57,7 @@ impl Call {
         Self::CurrentValue,
         Self::ValueAsOf,
         Self::Standing,
+        Self::PackageOut,
         Self::PlainRun,
     ];
 
@@ -68,6 +71,7 @@ impl Call {
             Self::CurrentValue => &[1, 2, 5],
             Self::ValueAsOf => &[1, 2, 4, 5],
             Self::Standing => &[1, 2, 4, 10],
+            Self::PackageOut => &[1, 2, 12],
         }
     }
 
@@ -96,8 +100,10 @@ struct Input {
     program: Vec<u8>,
     package: Vec<u8>,
     setting: usize,
-    /// The lengths of the slices that a package's answers and a plain run's settings are written to.
+    /// The lengths of the slices that a package's answers, a package out and a plain run's settings
+    /// are written to.
     answers: usize,
+    room: usize,
     settings: usize,
 }
 
@@ -127,6 +133,7 @@ impl Input {
             n,
             program: not_held_program(random, &tables),
             package: lay_out(&packages::entries(random, &tables.timestamps[..held])),
+            room: Size::of(&tables).bytes + random.pick(&[0, 0, 1, MAX_BYTES]),
             tables,
             timestamp,
             setting: random.below(SETTINGS),
@@ -168,11 +175,16 @@ impl Input {
                 self.program.resize(length, 0);
             }
             (7, _) => self.program[0] = op::COUNT + random.below(200) as u8,
+            (12, _) => {
+                let needed = Size::of(&self.tables).bytes;
+                self.room = random.pick(&[0, needed / 2, needed - 1]);
+            }
             _ => {}
         }
     }
 
-    /// The refusals that the input meets, each by document 01's words for it, in checking order.
+    /// The refusals that the input meets, each by document 01's words for it, or by document 02's,
+    /// in checking order.
     fn met(&self) -> Vec<u8> {
         let place = self.tables.place_of(self.timestamp);
         let met = |refusal: u8| match refusal {
@@ -201,6 +213,10 @@ impl Input {
             9 => place.is_none() && self.tables.held_count() == self.n,
             10 => place.is_none(),
             11 => place.is_some_and(|place| self.tables.withdrawn[place] == 1),
+            12 => {
+                let Size { entries, bytes } = Size::of(&self.tables);
+                entries > MAX_ENTRIES || bytes > MAX_BYTES || bytes > self.room
+            }
             _ => unreachable!("there is no refusal {refusal}"),
         };
         let refusals = self.call.refusals().iter().copied();
@@ -223,6 +239,7 @@ impl Input {
             Call::CurrentValue => both.ask(Query::CurrentValue(setting)).err(),
             Call::ValueAsOf => both.ask(Query::ValueAsOf(timestamp, setting)).err(),
             Call::Standing => both.ask(Query::Standing(timestamp)).err(),
+            Call::PackageOut => both.ask(Query::PackageOut(self.room)).err(),
             Call::PlainRun => both.ask(Query::PlainRun(self.settings)).err(),
         }
     }

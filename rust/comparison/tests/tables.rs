@@ -4,11 +4,12 @@
 use comparison::both::{Answer, Both, Query};
 use comparison::generate::tables::{self as random_tables, Breach, Table};
 use comparison::generate::{packages, Random};
+use comparison::packages_out::{self, PackageEvent};
 use comparison::proved::calls as proved;
 use comparison::reached::Reached;
 use comparison::seeds::{count_reached, with_seeds};
 use outside::calls::Refusal;
-use outside::package::ANSWERS;
+use outside::package::{ANSWERS, MAX_BYTES};
 use outside::program::{self, SETTINGS};
 use outside::start::{settings_at_start, start_value};
 use outside::tables::{in_form, Status, Tables, INFINITY, LIST_ENTRIES, MAX_CAPACITY};
@@ -69,10 +70,11 @@ fn setting(random: &mut Random, both: &Both) -> usize {
 }
 
 fn query(random: &mut Random, both: &Both) -> Query {
-    match random.below(8) {
+    match random.below(9) {
         0 => Query::CurrentValue(setting(random, both)),
         1..5 => Query::ValueAsOf(timestamp(random, both), setting(random, both)),
         5 | 6 => Query::Standing(timestamp(random, both)),
+        7 => Query::PackageOut(packages::room(random, both.tables())),
         _ => Query::PlainRun(match random.below(8) {
             0 => random.pick(&[0, 1, SETTINGS - 1, SETTINGS + 1, 2 * SETTINGS]),
             _ => SETTINGS,
@@ -107,6 +109,7 @@ enum Event {
     ValueAsOfRefused(u8),
     Standing(Status, bool),
     StandingRefused(u8),
+    PackageOut(PackageEvent),
     PlainRun,
     PlainRunOfNone,
     /// A run passes over a withdrawn change, meets a fault, reads what an earlier change wrote, and
@@ -138,6 +141,11 @@ fn count_answer(
         }
         (Query::Standing(_), Ok(answer)) => panic!("{answer:?} to {query:?}"),
         (Query::Standing(_), Err(n)) => reached.count(Event::StandingRefused(*n)),
+        (Query::PackageOut(room), _) => {
+            for event in packages_out::events(both.tables(), room, answer) {
+                reached.count(Event::PackageOut(event));
+            }
+        }
         (Query::PlainRun(_), Ok(_)) => count_plain_run(reached, both.tables()),
         (Query::PlainRun(_), Err(n)) => reached.count(Event::PlainRunRefused(*n)),
     }
@@ -276,11 +284,34 @@ fn random_tables_have_the_same_answers() {
         ),
         (Event::ValueAsOfRefused, &[1, 2, 4, 5]),
         (Event::StandingRefused, &[1, 2, 4, 10]),
+        (
+            |refusal| Event::PackageOut(PackageEvent::Refused(refusal)),
+            &[1, 2, 12],
+        ),
         (Event::PlainRunRefused, &[1, 2]),
         (Event::SetUpRefused, &[1]),
     ] {
         for &refusal in refusals {
             reached.assert_at_least(TABLES / 500, refused(refusal));
+        }
+    }
+    for event in [
+        PackageEvent::Written,
+        PackageEvent::OfNone,
+        PackageEvent::Exact,
+        PackageEvent::Longer,
+        PackageEvent::OtherArrival,
+        PackageEvent::TooShort,
+        PackageEvent::OneByteShort,
+    ] {
+        reached.assert_at_least(TABLES / 50, Event::PackageOut(event));
+    }
+    for status in [Status::New, Status::Valid, Status::Invalid] {
+        for event in [
+            PackageEvent::Change(status),
+            PackageEvent::Withdrawn(status),
+        ] {
+            reached.assert_at_least(TABLES / 50, Event::PackageOut(event));
         }
     }
 }
@@ -369,6 +400,8 @@ fn tables_of_capacity_4096_have_the_same_answers() {
             }
             let answer = both.ask(Query::Standing(last));
             assert_eq!(answer.is_ok(), held > 0, "{answer:?}");
+            let answer = both.ask(Query::PackageOut(MAX_BYTES));
+            assert_eq!(answer.err(), (held > 1).then_some(12));
             assert_eq!(set_up(&both), Ok(()));
         }
     });

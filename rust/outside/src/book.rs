@@ -109,7 +109,7 @@ pub fn check(calls: &[Call], tables: &Tables) -> Result<(), Breach> {
 
 /// "The book is kept from the calls' arguments and answers alone and starts empty."
 #[derive(Default)]
-struct Book(BTreeMap<u64, Booked>);
+pub(crate) struct Book(BTreeMap<u64, Booked>);
 
 struct Booked {
     program: Vec<u8>,
@@ -118,7 +118,7 @@ struct Booked {
 
 impl Book {
     /// "Already held, a refusal, a turn and a drain leave the book as it is."
-    fn of(calls: &[Call]) -> Self {
+    pub(crate) fn of(calls: &[Call]) -> Self {
         let mut book = Self::default();
         for call in calls {
             match call {
@@ -165,6 +165,18 @@ impl Book {
                 Entry::Withdrawal { timestamp } => self.mark_withdrawn(timestamp),
             }
         }
+    }
+
+    /// "all held changes by rising timestamp, then the withdrawals by rising timestamp" (document
+    /// 02, R-3).
+    pub(crate) fn entries(&self) -> Vec<Entry> {
+        let changes = self.0.iter().map(|(&timestamp, booked)| Entry::Change {
+            timestamp,
+            program: booked.program.clone(),
+        });
+        let withdrawn = self.0.iter().filter(|(_, booked)| booked.withdrawn);
+        let withdrawals = withdrawn.map(|(&timestamp, _)| Entry::Withdrawal { timestamp });
+        changes.chain(withdrawals).collect()
     }
 
     /// "The fresh run starts 1,024 settings of its own, each at its start value, and goes through

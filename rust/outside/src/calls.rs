@@ -29,6 +29,9 @@ pub enum Refusal {
     NotHeld,
     /// "11. The change is withdrawn already (withdraw)."
     Withdrawn,
+    /// "Refusal 12, last in the order: the package would pass its own limits or the lent slice."
+    /// (document 02, R-3)
+    Room,
 }
 
 impl Refusal {
@@ -45,6 +48,7 @@ impl Refusal {
             Self::Full => 9,
             Self::NotHeld => 10,
             Self::Withdrawn => 11,
+            Self::Room => 12,
         }
     }
 }

@@ -4,7 +4,9 @@ use crate::book::{self, turns_of_drain, Breach, Call, LoggedTurn};
 use crate::calls::Refusal;
 use crate::checker::{drain, turn, Turned};
 use crate::intake::{take_in, withdraw, Taken};
-use crate::package::{take_in_package, ALREADY_HELD, ANSWERS, DONE, ENTRY_BYTES};
+use crate::package::{
+    package_out, take_in_package, ALREADY_HELD, ANSWERS, DONE, ENTRY_BYTES, MAX_BYTES,
+};
 use crate::program::{op, Instruction, INSTRUCTION_BYTES};
 use crate::start::start_value;
 use crate::tables::{Tables, LIST_ENTRIES, PROGRAM_BYTES};
@@ -165,6 +167,15 @@ impl Script {
             answer,
         });
         answer
+    }
+
+    /// The package that is written, which must not be refused.
+    #[track_caller]
+    pub fn package_out(&self) -> Vec<u8> {
+        let mut package = vec![0; MAX_BYTES];
+        let written = package_out(self.n, &self.tables, &mut package);
+        package.truncate(written.expect("the package passes no limit"));
+        package
     }
 
     /// Makes a turn and returns its timestamp and answer, or none for idle.

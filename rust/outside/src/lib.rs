@@ -12,6 +12,7 @@ pub mod book;
 pub mod cabinet;
 pub mod calls;
 pub mod checker;
+pub mod filled;
 pub mod intake;
 pub mod package;
 pub mod program;

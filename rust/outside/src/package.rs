@@ -1,11 +1,12 @@
-//! The layout of a package, and the call that takes one in.
+//! The layout of a package, and the calls that take one in and write one.
 //!
-//! Document 01, "Calls", and refusal 3 of "Turned down, in checking order".
+//! Document 01, "Calls", and refusal 3 of "Turned down, in checking order"; document 02, R-3.
 
 use crate::calls::{check, refuse_unless, Refusal};
 use crate::intake::{take_in_checked, withdraw_checked, Taken};
 use crate::program::{INSTRUCTION_BYTES, MAX_INSTRUCTIONS};
 use crate::tables::Tables;
+use std::collections::BTreeMap;
 
 /// "Its length is at most 65,535".
 pub const MAX_BYTES: usize = 65_535;
@@ -68,6 +69,26 @@ pub fn entries(package: &[u8]) -> Option<Vec<Entry>> {
     bodies.is_empty().then_some(entries)
 }
 
+/// The bytes of a package with these entries, laid out as [`entries`] reads them. Neither their
+/// number nor the length is tested.
+pub fn lay_out(entries: &[Entry]) -> Vec<u8> {
+    let mut package = (entries.len() as u16).to_le_bytes().to_vec();
+    for entry in entries {
+        let (timestamp, kind, bytes) = match entry {
+            Entry::Change { timestamp, program } => (timestamp, 0, program.len()),
+            Entry::Withdrawal { timestamp } => (timestamp, 1, 0),
+        };
+        package.extend(timestamp.to_le_bytes());
+        package.extend([kind, (bytes / INSTRUCTION_BYTES) as u8, 0, 0]);
+    }
+    for entry in entries {
+        if let Entry::Change { program, .. } = entry {
+            package.extend(program);
+        }
+    }
+    package
+}
+
 /// "Entries are carried out in order into a lent slice of 512 answer bytes: 0 done, 255 already
 /// held, else the refusal; later bytes keep their contents, and a refused entry stops nothing."
 pub fn take_in_package(
@@ -93,6 +114,32 @@ pub fn take_in_package(
         };
     }
     Ok(())
+}
+
+/// "Write all held changes by rising timestamp, then the withdrawals by rising timestamp, as one
+/// package. [..] The written length is returned and later bytes of the lent slice keep their
+/// contents. Refusal 12, last in the order: the package would pass its own limits or the lent
+/// slice." (document 02, R-3)
+pub fn package_out(n: usize, tables: &Tables, lent: &mut [u8]) -> Result<usize, Refusal> {
+    check(n, tables)?;
+    let held = 0..tables.held_count();
+    let places: BTreeMap<u64, usize> = held
+        .map(|place| (tables.timestamps[place], place))
+        .collect();
+    let changes = places.iter().map(|(&timestamp, &place)| Entry::Change {
+        timestamp,
+        program: tables.program(place).to_vec(),
+    });
+    let withdrawn = places
+        .iter()
+        .filter(|(_, &place)| tables.withdrawn[place] != 0);
+    let withdrawals = withdrawn.map(|(&timestamp, _)| Entry::Withdrawal { timestamp });
+    let entries: Vec<Entry> = changes.chain(withdrawals).collect();
+    let package = lay_out(&entries);
+    let in_limits = entries.len() <= MAX_ENTRIES && package.len() <= MAX_BYTES;
+    refuse_unless(in_limits && package.len() <= lent.len(), Refusal::Room)?;
+    lent[..package.len()].copy_from_slice(&package);
+    Ok(package.len())
 }
 
 #[cfg(test)]

@@ -3,7 +3,8 @@
 use std::error::Error;
 use std::fmt;
 
-/// Why a call is turned down: document 01, "Turned down, in checking order". It has altered nothing.
+/// Why a call is turned down: document 01, "Turned down, in checking order", and document 02. It
+/// has altered nothing.
 #[derive(Clone, Copy, Debug, PartialEq, Eq, PartialOrd, Ord, Hash)]
 #[repr(u8)]
 pub enum Refusal {
@@ -29,11 +30,14 @@ pub enum Refusal {
     NotHeld = 10,
     /// The change is withdrawn already.
     Withdrawn = 11,
+    /// The package would have more than 512 entries, more than 65,535 bytes or more than the lent
+    /// slice.
+    Room = 12,
 }
 
 impl Refusal {
     /// All refusals, in checking order.
-    pub const ALL: [Self; 11] = [
+    pub const ALL: [Self; 12] = [
         Self::Length,
         Self::Form,
         Self::Package,
@@ -45,9 +49,10 @@ impl Refusal {
         Self::Full,
         Self::NotHeld,
         Self::Withdrawn,
+        Self::Room,
     ];
 
-    /// The number of the refusal, 1 to 11.
+    /// The number of the refusal, 1 to 12.
     pub fn number(self) -> u8 {
         self as u8
     }
@@ -74,6 +79,7 @@ impl fmt::Display for Refusal {
             Self::Full => "the tables are full",
             Self::NotHeld => "the timestamp is not held",
             Self::Withdrawn => "the change is withdrawn already",
+            Self::Room => "the package would have over 512 entries or 65,535 bytes, or does not fit into the lent slice",
         };
         write!(f, "refused {}: {reason}", self.number())
     }

@@ -1,7 +1,7 @@
 //! A cabinet: a capacity and the tables for it.
 
 use crate::answers::{Refusal, Standing, Taken, Totals, Turned};
-use crate::calls::{self, ANSWERS};
+use crate::calls::{self, ANSWERS, PACKAGE_BYTES};
 use crate::tables::{Tables, MAX_CAPACITY, SETTINGS};
 
 /// The value that each setting starts at, as a new switch comes up: 1 for the untagged VLAN of each
@@ -119,5 +119,49 @@ impl Cabinet {
         let mut settings = vec![0; SETTINGS];
         calls::plain_run(self.capacity, &self.tables, &mut settings)?;
         Ok(settings)
+    }
+
+    /// All held changes by rising timestamp, then the withdrawals by rising timestamp, as one
+    /// package, from which a replacement cabinet is filled. It must have room for the held changes,
+    /// withdrawn ones too; drained, it has what this cabinet has once that is drained.
+    ///
+    /// More than one package can have, 512 entries and 65,535 bytes, is refused
+    /// ([`Refusal::Room`]). A withdrawn change is two entries.
+    ///
+    /// ```
+    /// use tolbezun::{program, setting, Cabinet, Instruction, Refusal, Taken};
+    ///
+    /// /// A change that sets the untagged VLAN of port 2.
+    /// fn set(vlan: i32) -> Vec<u8> {
+    ///     let setting = setting(2, 2) as i32;
+    ///     program(&[
+    ///         Instruction::Constant { a: 0, n: vlan },
+    ///         Instruction::Write { a: 0, setting },
+    ///     ])
+    /// }
+    ///
+    /// fn main() -> Result<(), Refusal> {
+    ///     let mut neighbour = Cabinet::new(128)?;
+    ///     neighbour.take_in(20, &set(30))?;
+    ///     neighbour.take_in(10, &set(7))?;
+    ///     neighbour.withdraw(20)?;
+    ///     neighbour.drain()?;
+    ///
+    ///     let mut replacement = Cabinet::new(64)?;
+    ///     let answers = replacement.take_in_package(&neighbour.package_out()?)?;
+    ///     assert_eq!(answers, [Ok(Taken::Done); 3]);
+    ///     replacement.drain()?;
+    ///     assert_eq!(replacement.current_value(setting(2, 2)), Ok(7));
+    ///     assert_eq!(replacement.standing(20), neighbour.standing(20));
+    ///     assert_eq!(replacement.package_out(), neighbour.package_out());
+    ///     Ok(())
+    /// }
+    /// ```
+    pub fn package_out(&self) -> Result<Vec<u8>, Refusal> {
+        let mut package = vec![0; PACKAGE_BYTES];
+        let length = calls::package_out(self.capacity, &self.tables, &mut package)?;
+        package.truncate(length);
+        package.shrink_to_fit();
+        Ok(package)
     }
 }

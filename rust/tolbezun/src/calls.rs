@@ -49,6 +49,9 @@ macro_rules! call {
 /// The number of answers that a package needs room for.
 pub const ANSWERS: usize = 512;
 
+/// The most bytes that a package has.
+pub const PACKAGE_BYTES: usize = 65_535;
+
 /// Sets up the tables: every slot 0, the view at the start values.
 pub fn set_up(n: usize, tables: &mut Tables) -> Result<(), Refusal> {
     // SAFETY: pointers and lengths are those of distinct vectors, which may be written, and nothing
@@ -179,10 +182,7 @@ pub fn value_as_of(
 /// The standing of a timestamp.
 pub fn standing(n: usize, tables: &Tables, timestamp: u64) -> Result<Standing, Refusal> {
     // SAFETY: pointers and lengths are those of vectors, and nothing more is required.
-    let answer = unsafe { call!(tolbezun_standing(n, tables.as_ptr(), timestamp)) };
-    let Ok(standing) = u16::try_from(answer) else {
-        return Err(refusal(i64::from(answer) - 65_536));
-    };
+    let standing = number(unsafe { call!(tolbezun_standing(n, tables.as_ptr(), timestamp)) })?;
     let [status, flag] = standing.to_le_bytes();
     Ok(Standing {
         status: match status {
@@ -206,6 +206,17 @@ pub fn plain_run(n: usize, tables: &Tables, settings: &mut [i32]) -> Result<(), 
     // SAFETY: pointers and lengths are those of vectors and of a distinct slice, which may be
     // written, and nothing more is required.
     done(unsafe { call!(tolbezun_plain_run(n, tables.as_ptr(), settings, length)) })
+}
+
+/// Writes all held changes by rising timestamp, then the withdrawals by rising timestamp, as one
+/// package to the first of the lent bytes, and returns its length. Later bytes keep their contents.
+/// No package needs more than [`PACKAGE_BYTES`].
+pub fn package_out(n: usize, tables: &Tables, package: &mut [u8]) -> Result<usize, Refusal> {
+    let (package, length) = (package.as_mut_ptr(), package.len());
+    // SAFETY: pointers and lengths are those of vectors and of a distinct slice, which may be
+    // written, and nothing more is required.
+    let written = unsafe { call!(tolbezun_package_out(n, tables.as_ptr(), package, length)) };
+    number(written).map(usize::from)
 }
 
 /// Writes the value that each setting starts at to the lent settings, which must be 1,024.
@@ -232,6 +243,10 @@ fn taken(answer: u8) -> Result<Taken, Refusal> {
 
 fn value(answer: i64) -> Result<i32, Refusal> {
     i32::try_from(answer).map_err(|_| refusal(answer - 4_294_967_296))
+}
+
+fn number(answer: u32) -> Result<u16, Refusal> {
+    u16::try_from(answer).map_err(|_| refusal(i64::from(answer) - 65_536))
 }
 
 fn refusal(number: i64) -> Refusal {

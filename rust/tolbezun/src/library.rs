@@ -95,6 +95,8 @@ declare! {
 
     fn tolbezun_plain_run(tables: *const, settings: *mut i32, settings_len: usize) -> u8;
 
+    fn tolbezun_package_out(tables: *const, package: *mut u8, package_len: usize) -> u32;
+
     without tables:
 
     fn tolbezun_start_values(settings: *mut i32, settings_len: usize) -> u8;

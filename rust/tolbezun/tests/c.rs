@@ -65,7 +65,17 @@ fn the_example_shows_the_power_left() {
 /// Answers as the header says, slices that keep their contents, and nothing lent.
 #[test]
 fn edges_are_as_the_header_says() {
-    let expected = "\
+    // 1, which is withdrawn, has no instructions, 2^64 - 2 has two.
+    let package = [
+        "0300",
+        "010000000000000000000000",
+        "feffffffffffffff00020000",
+        "010000000000000001000000",
+        "01000000fbffffff0d000000ff030000",
+    ];
+    let (package, untouched) = (package.concat(), "63".repeat(57));
+    let expected = format!(
+        "\
 set_up 1 1 0
 nothing lent 1 1
 take_in 0 255 8 0 9 4 6 7
@@ -82,6 +92,11 @@ current_value -5 4294967301 4294967297
 value_as_of -5 0 4294967300
 withdraw 0 11 10
 standing 258 1 65546
+package_out 65548 {untouched}
+package_out 65548 {untouched}
+package_out 54 {package}636363
+package_out 54 {package}636363
+package_out 65548 65537
 take_in_package 1 1 3 0: 10 99
 plain_run 1 99 0: 0 -5 99
 start_values 1 1 99 0: 1 0 99
@@ -93,8 +108,9 @@ turn 1 20 3 77
 turn 0 20 3 77
 withdraw 0
 turn 3 10 3 77
-not in form 2 18 2 65538
-";
+not in form 2 18 2 65538 65538
+"
+    );
     let edges = Path::new(env!("CARGO_MANIFEST_DIR")).join("tests/edges.c");
     assert_eq!(run(&edges), expected);
 }

@@ -1,5 +1,6 @@
 //! A cabinet's calls, their answers by name, and what people read.
 
+use tolbezun::calls::{self, PACKAGE_BYTES};
 use tolbezun::{
     program, setting, start_values, Cabinet, Instruction, Refusal, Standing, Status, Tables, Taken,
     Totals, Turned, MAX_CAPACITY, SETTINGS,
@@ -130,7 +131,7 @@ fn a_new_switch_has_untagged_vlan_1_and_all_else_at_0() {
     }
     for length in [0, 1_023, 1_025] {
         let mut settings = vec![7; length];
-        let answer = tolbezun::calls::start_values(&mut settings);
+        let answer = calls::start_values(&mut settings);
         assert_eq!(answer, Err(Refusal::Length));
         assert_eq!(settings, vec![7; length]);
     }
@@ -222,6 +223,109 @@ fn a_package_has_an_answer_for_each_entry() {
     assert_eq!(cabinet, before);
 }
 
+/// The later change arrives first and is Valid, the other is withdrawn and New.
+#[test]
+fn a_package_out_has_the_changes_and_then_the_withdrawals() {
+    let mut cabinet = Cabinet::new(4).unwrap();
+    assert_eq!(cabinet.package_out(), Ok(vec![0, 0]));
+    assert_eq!(cabinet.take_in(0x0102_0304, &copy(34, 50)), Ok(Taken::Done));
+    assert_eq!(cabinet.drain().map(|totals| totals.ran), Ok(1));
+    assert_eq!(cabinet.take_in(10, &set(34, 7)), Ok(Taken::Done));
+    assert_eq!(cabinet.withdraw(10), Ok(()));
+    let contents = [
+        &[3, 0][..],
+        &[10, 0, 0, 0, 0, 0, 0, 0, 0, 2, 0, 0],
+        &[4, 3, 2, 1, 0, 0, 0, 0, 0, 2, 0, 0],
+        &[10, 0, 0, 0, 0, 0, 0, 0, 1, 0, 0, 0],
+    ];
+    let bodies = [set(34, 7), copy(34, 50)];
+    let package = [contents.concat(), bodies.concat()].concat();
+    assert_eq!(cabinet.package_out(), Ok(package.clone()));
+
+    let mut filled = Cabinet::new(2).unwrap();
+    let answers = filled.take_in_package(&package);
+    assert_eq!(answers, Ok(vec![Ok(Taken::Done); 3]));
+    assert_eq!(filled.package_out(), Ok(package.clone()));
+    for cabinet in [&mut cabinet, &mut filled] {
+        assert!(cabinet.drain().is_ok());
+        assert_eq!(cabinet.package_out(), Ok(package.clone()));
+    }
+    assert_eq!(filled.tables().view, cabinet.tables().view);
+    for timestamp in [10, 0x0102_0304] {
+        assert_eq!(filled.standing(timestamp), cabinet.standing(timestamp));
+    }
+}
+
+#[test]
+fn a_lent_slice_gets_the_package_and_else_keeps_its_contents() {
+    let mut cabinet = Cabinet::new(2).unwrap();
+    assert_eq!(cabinet.take_in(10, &set(34, 7)), Ok(Taken::Done));
+    let package = cabinet.package_out().unwrap();
+    assert_eq!(package.len(), 30);
+    for length in 0..40 {
+        let mut lent = vec![99; length];
+        let answer = calls::package_out(2, cabinet.tables(), &mut lent);
+        match length {
+            0..30 => {
+                assert_eq!(answer, Err(Refusal::Room));
+                assert_eq!(lent, vec![99; length]);
+            }
+            _ => {
+                assert_eq!(answer, Ok(30));
+                assert_eq!(lent[..30], package);
+                assert_eq!(lent[30..], vec![99; length - 30]);
+            }
+        }
+    }
+}
+
+/// The cabinet's package is refused, however long the lent slice is.
+#[track_caller]
+fn assert_no_room(cabinet: &Cabinet) {
+    assert_eq!(cabinet.package_out(), Err(Refusal::Room));
+    let mut lent = vec![99; 2 * PACKAGE_BYTES];
+    let answer = calls::package_out(cabinet.capacity(), cabinet.tables(), &mut lent);
+    assert_eq!(answer, Err(Refusal::Room));
+    assert_eq!(lent, vec![99; 2 * PACKAGE_BYTES]);
+}
+
+/// 512 entries are let through, and 65,534 bytes; the next lengths of a package are not.
+#[test]
+fn a_package_has_its_limits_whatever_is_lent() {
+    let mut cabinet = Cabinet::new(MAX_CAPACITY).unwrap();
+    for timestamp in 1..=511 {
+        assert_eq!(cabinet.take_in(timestamp, &[]), Ok(Taken::Done));
+    }
+    assert_eq!(
+        cabinet.package_out().map(|package| package.len()),
+        Ok(6_134)
+    );
+    assert_eq!(cabinet.withdraw(500), Ok(()));
+    assert_eq!(
+        cabinet.package_out().map(|package| package.len()),
+        Ok(6_146)
+    );
+    let mut longer = cabinet.clone();
+    assert_eq!(longer.withdraw(1), Ok(()));
+    assert_no_room(&longer);
+
+    // 2 + 12 × 245 + 8 × (32 × 244 + 16) = 65,534.
+    let mut cabinet = Cabinet::new(MAX_CAPACITY).unwrap();
+    for timestamp in 1..=244 {
+        assert_eq!(cabinet.take_in(timestamp, &[0; 256]), Ok(Taken::Done));
+    }
+    let mut longer = cabinet.clone();
+    assert_eq!(cabinet.take_in(245, &[0; 8 * 16]), Ok(Taken::Done));
+    assert_eq!(
+        cabinet.package_out().map(|package| package.len()),
+        Ok(65_534)
+    );
+    // 2 + 12 × 246 + 8 × (32 × 244 + 15) = 65,538.
+    assert_eq!(longer.take_in(245, &[0; 8 * 15]), Ok(Taken::Done));
+    assert_eq!(longer.withdraw(1), Ok(()));
+    assert_no_room(&longer);
+}
+
 #[test]
 fn every_refusal_has_its_number_and_its_call() {
     let mut cabinet = Cabinet::new(1).unwrap();
@@ -244,6 +348,7 @@ fn every_refusal_has_its_number_and_its_call() {
         cabinet.take_in(6, &[]).err(),
         cabinet.standing(6).err(),
         withdrawn.withdraw(5).err(),
+        calls::package_out(1, cabinet.tables(), &mut [0; 29]).err(),
     ];
     assert_eq!(refused, Refusal::ALL.map(Some));
     for (number, refusal) in (1..).zip(Refusal::ALL) {
@@ -253,7 +358,7 @@ fn every_refusal_has_its_number_and_its_call() {
             .to_string()
             .starts_with(&format!("refused {number}: ")));
     }
-    for number in [0, 12, 255] {
+    for number in [0, 13, 255] {
         assert_eq!(Refusal::from_number(number), None);
     }
 }

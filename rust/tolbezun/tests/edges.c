@@ -3,6 +3,7 @@
 
 #include <inttypes.h>
 #include <stdio.h>
+#include <string.h>
 
 #define N 2
 static uint16_t held[1], order[N], status[N], withdrawn[N], length[N], read_count[N], write_count[N];
@@ -34,6 +35,7 @@ static uint64_t values[3] = {77, 77, 77};
 static uint64_t totals[5] = {77, 77, 77, 77, 77};
 static uint8_t answers[513];
 static int32_t settings[1025];
+static uint8_t written[57];
 
 static void turn(size_t entries)
 {
@@ -46,6 +48,16 @@ static void drain(size_t entries)
     int answer = tolbezun_drain(TABLES, totals, entries);
     printf("drain %d %" PRIu64 " %" PRIu64 " %" PRIu64, answer, totals[0], totals[1], totals[2]);
     printf(" %" PRIu64 " %" PRIu64 "\n", totals[3], totals[4]);
+}
+
+/* Lends so many bytes, of 57 that are all 99. */
+static void package_out(size_t bytes)
+{
+    memset(written, 99, sizeof written);
+    printf("package_out %" PRIu32 " ", tolbezun_package_out(TABLES, written, bytes));
+    for (size_t i = 0; i < sizeof written; i++)
+        printf("%02x", written[i]);
+    printf("\n");
 }
 
 /* Sets up, and takes in a change that faults and one that does not. */
@@ -87,6 +99,12 @@ int main(void)
     printf(" %d\n", tolbezun_withdraw(TABLES, 2));
     printf("standing %" PRIu32 " %" PRIu32 " %" PRIu32 "\n", tolbezun_standing(TABLES, 1),
            tolbezun_standing(TABLES, UINT64_MAX - 1), tolbezun_standing(TABLES, 2));
+    package_out(0);
+    package_out(53);
+    package_out(54);
+    package_out(56);
+    printf("package_out %" PRIu32 " %" PRIu32 "\n", tolbezun_package_out(TABLES, NULL, 0),
+           tolbezun_package_out(LENT(3), written, 54));
     answers[1] = 99;
     printf("take_in_package %d", tolbezun_take_in_package(TABLES, package, sizeof package, answers, 511));
     printf(" %d", tolbezun_take_in_package(TABLES, package, sizeof package, answers, 513));
@@ -115,6 +133,7 @@ int main(void)
     printf("not in form %d", tolbezun_withdraw(TABLES, 1));
     printf(" %d", tolbezun_turn(TABLES, values, 2));
     printf(" %d", tolbezun_drain(TABLES, totals, 4));
-    printf(" %" PRIu32 "\n", tolbezun_standing(TABLES, 1));
+    printf(" %" PRIu32, tolbezun_standing(TABLES, 1));
+    printf(" %" PRIu32 "\n", tolbezun_package_out(TABLES, written, sizeof written));
     return 0;
 }

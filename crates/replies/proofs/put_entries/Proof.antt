@@ -3,17 +3,18 @@ use mathlib.Core.Path.{_≡_, ap}
 use Prim.Native.Nat.{ℕ, _-_, _<_}
 use native.Mathlib.Omega.{arith}
 use lib.ListN.{getD}
+use Rattle.text.specs.Pieces.{piecesBelow}
 use Rattle.text.proofs.Pieces.{put-as}
+use Rattle.text.proofs.Below.{Below, below-none, below-next, below-all}
 use Rattle.model.specs.Package.{entryCount}
 use Rattle.packages.proofs.Entries.{LaidOut, laid-out, entry-within}
 use Rattle.lines.specs.Lines.{entryLine}
-use Rattle.replies.specs.Replies.{linesBelow, entryOf, entryLines}
-use Rattle.replies.proofs.Below.{Below, below-none, below-next, below-all}
+use Rattle.replies.specs.Replies.{entryOf, entryLines}
 use Rattle.replies.proofs.put_entries.Statement.{statement}
 use Rattle.replies.proofs.put_entries.Tie as tie
 
 abbrev Inv-loop : tie.InvT-loop
-Inv-loop bytes answers text₀ count end₀ j₀ text end j = Below (entryOf bytes answers) 0 count text₀ text end j
+Inv-loop bytes answers text₀ count end₀ j₀ text end j = Below (entryOf bytes answers) 64 0 count text₀ text end j
 
 abbrev μ-loop : tie.MeasureT-loop
 μ-loop bytes answers text₀ count end₀ j₀ text end j = count - j
@@ -35,7 +36,7 @@ entry-count-requires : tie.Need-entry-count-requires Inv-loop μ-loop
 entry-count-requires c κs = layout (c .before .before .before) .some-bytes
 
 loop-holds : tie.Need-loop-holds Inv-loop μ-loop
-loop-holds c = below-none _ 0 _ _
+loop-holds c = below-none _ _ 0 _ _
 
 kind-at-requires : tie.Need-kind-at-requires Inv-loop μ-loop
 kind-at-requires c κs = entry-within _ (layout (entry (c .before))) _ (below c)
@@ -81,7 +82,7 @@ returns c =
     let l = c .before in
     let s = entry l in
     let b = l .loop .inv in
-    let e = ap (λ (k : ℕ). linesBelow k (entryOf (s .args .bytes .now) (s .args .answers .now))) (counted l) in
+    let e = ap (λ (k : ℕ). piecesBelow k (entryOf (s .args .bytes .now) (s .args .answers .now))) (counted l) in
     (put-as (below-all b (c .loop-test .left)) e, omega (arith, b .short, b .within, counted l, layout s .few))
 
 pub put-entries-spec : {M : Type 1} → statement M

@@ -4,14 +4,16 @@ use Prim.Native.Nat.{ℕ, _-_}
 use native.Mathlib.Omega.{arith}
 use borrow.Author.Needs.{sfits-of}
 use lib.ListN.{length}
+use Rattle.text.specs.Pieces.{piecesBelow}
 use Rattle.text.proofs.Pieces.{put-as}
-use Rattle.replies.specs.Replies.{linesBelow, settingOf, settingLines}
-use Rattle.replies.proofs.Below.{Below, below-none, below-next, below-all, setting-read}
+use Rattle.text.proofs.Below.{Below, below-none, below-next, below-all}
+use Rattle.replies.specs.Replies.{settingOf, settingLines}
+use Rattle.replies.proofs.Values.{setting-read}
 use Rattle.replies.proofs.put_settings.Statement.{statement}
 use Rattle.replies.proofs.put_settings.Tie as tie
 
 abbrev Inv-loop : tie.InvT-loop
-Inv-loop view text₀ at end₀ s₀ text end s = Below (settingOf view) at (length view) text₀ text end s
+Inv-loop view text₀ at end₀ s₀ text end s = Below (settingOf view) 64 at (length view) text₀ text end s
 
 abbrev μ-loop : tie.MeasureT-loop
 μ-loop view text₀ at end₀ s₀ text end s = length view - s
@@ -20,7 +22,7 @@ abbrev entry : tie.At-loop Inv-loop μ-loop → tie.Start Inv-loop μ-loop
 entry l = l .before .before
 
 loop-holds : tie.Need-loop-holds Inv-loop μ-loop
-loop-holds c = below-none _ _ _ _
+loop-holds c = below-none _ _ _ _ _
 
 mul-put-setting : tie.Need-mul-put-setting Inv-loop μ-loop
 mul-put-setting c =
@@ -66,7 +68,7 @@ returns c =
     let l = c .before in
     let s = entry l in
     let b = l .loop .inv in
-    let e = ap (λ (k : ℕ). linesBelow k (settingOf (s .args .view .now))) (s .pre .0) in
+    let e = ap (λ (k : ℕ). piecesBelow k (settingOf (s .args .view .now))) (s .pre .0) in
     (put-as (below-all b (c .loop-test .left)) e, omega (arith, b .short, b .within, s .pre .0))
 
 pub put-settings-spec : {M : Type 1} → statement M

@@ -55,6 +55,14 @@ fn every_kind_of_line_is_read() {
             },
         );
     }
+    for (line, length) in [
+        ("package_out 0", 0),
+        ("package_out 00200", 200),
+        ("package_out 65535", 65_535),
+        ("package_out 18446744073709551615", usize::MAX),
+    ] {
+        assert_read(line, Call::PackageOut { length });
+    }
     assert_read("plain_run", Call::PlainRun);
     assert_read("start_values", Call::StartValues);
     assert_read("tables", Call::Tables);
@@ -162,6 +170,7 @@ fn every_argument_may_be_missing() {
         ("value_as_of 15", "S"),
         ("standing", "TS"),
         ("take_in_package", "HEX"),
+        ("package_out", "L"),
         ("load", "FILE"),
     ] {
         let error = Err(Error::Missing(argument));
@@ -182,6 +191,7 @@ fn a_word_may_be_too_many() {
         "value_as_of 15 34 x",
         "standing 20 x",
         "take_in_package 0000 len5 x",
+        "package_out 200 x",
         "plain_run x",
         "start_values x",
         "tables x",
@@ -194,7 +204,8 @@ fn a_word_may_be_too_many() {
     assert_eq!(message("turn # why"), r##""#" is a word too many"##);
 }
 
-/// Panics unless every line with this word for a timestamp or a setting has the error for it.
+/// Panics unless every line with this word for a timestamp, a setting or a length has the error for
+/// it.
 #[track_caller]
 fn assert_numbers_refused(word: &str, error: impl Fn(&'static str) -> Error) {
     for (argument, line) in [
@@ -204,6 +215,7 @@ fn assert_numbers_refused(word: &str, error: impl Fn(&'static str) -> Error) {
         ("TS", format!("standing {word}")),
         ("S", format!("current {word}")),
         ("S", format!("value_as_of 15 {word}")),
+        ("L", format!("package_out {word}")),
     ] {
         assert_eq!(read(line.as_bytes()), Err(error(argument)), "{line:?}");
     }

@@ -74,6 +74,8 @@ fn every_form_of_answer() {
             ),
             ("take_in_package 0000", "done answers []"),
             ("withdraw 77", "refused 10"),
+            ("set_up", "done"),
+            ("package_out 2", "length 2 0000"),
         ],
     );
 }
@@ -189,6 +191,8 @@ fn every_refusal() {
                 &format!("take_in_package {}", package(&[(8, 0, wrong), (8, 0, "")])),
                 "done answers [7, 9]",
             ),
+            // Two changes and a withdrawal.
+            ("package_out 37", "refused 12"),
         ],
     );
     write_file(
@@ -240,4 +244,108 @@ fn the_most_entries() {
             (&"drain".to_string(), "totals 512 0 0 0"),
         ],
     );
+}
+
+/// The lent slice may have any length. 0xAB and more are two digits, in lower case.
+#[test]
+fn a_package_out() {
+    let (first, second) = (copy(34, 0xAB), set(34, -2));
+    let entries = [
+        (10, 0, second.as_str()),
+        (0xCDEF, 0, first.as_str()),
+        (10, 1, ""),
+    ];
+    let written = package(&entries);
+    assert_eq!(written.len(), 2 * 70);
+    assert!(written.contains("ab") && written.contains("efcd") && written.contains("feff"));
+    let answer = format!("length 70 {written}");
+    let (of_no_entries, refused) = ("length 2 0000", "refused 12");
+    assert_answers(
+        &["--n", "2"],
+        &[
+            ("package_out 0", refused),
+            ("package_out 1", refused),
+            ("package_out 2", of_no_entries),
+            ("package_out 65535", of_no_entries),
+            ("package_out 1000000", of_no_entries),
+            (&take_in(0xCDEF, &first), "done"),
+            ("drain", "totals 1 0 0 0"),
+            (&take_in(10, &second), "done"),
+            ("withdraw 10", "done"),
+            ("package_out 0", refused),
+            ("package_out 69", refused),
+            ("package_out 70", &answer),
+            ("package_out 000071", &answer),
+            ("package_out 70000", &answer),
+            ("standing 10", "standing 0 1"),
+            ("drain", "totals 0 0 1 0"),
+            ("package_out 70", &answer),
+            // What was written is taken in.
+            ("set_up", "done"),
+            (
+                &format!("take_in_package {written}"),
+                "done answers [0, 0, 0]",
+            ),
+            ("package_out 70", &answer),
+            (
+                &format!("take_in_package {written}"),
+                "done answers [255, 255, 11]",
+            ),
+            ("drain", "totals 1 0 1 0"),
+            ("package_out 70", &answer),
+        ],
+    );
+}
+
+/// 512 entries are let through, 513 are not, whether changes or withdrawals.
+#[test]
+fn the_most_entries_of_a_package_out() {
+    let change = |timestamp| (timestamp, 0, "");
+    let withdrawal = |timestamp| (timestamp, 1, "");
+    for (held, withdrawn) in [(512, 0), (256, 256), (511, 1)] {
+        let changes = (1..=held).map(change);
+        let entries: Vec<_> = changes.chain((1..=withdrawn).map(withdrawal)).collect();
+        let written = package(&entries);
+        let calls = [
+            (
+                format!("take_in_package {written}"),
+                format!("done answers [{}]", vec!["0"; 512].join(", ")),
+            ),
+            (
+                "package_out 65535".to_string(),
+                format!("length 6146 {written}"),
+            ),
+            (take_in(600, "-"), "done".to_string()),
+            ("package_out 65535".to_string(), "refused 12".to_string()),
+        ];
+        let calls = calls.each_ref();
+        let calls = calls.map(|(line, answer)| (line, answer.as_str()));
+        assert_answers(&["--n", "600"], &calls);
+    }
+}
+
+/// 65,534 bytes are let through. No package has one byte more, and 65,538 are too many.
+#[test]
+fn the_most_bytes_of_a_package_out() {
+    let long = "00".repeat(256);
+    let lines: Vec<String> = (1..=244)
+        .map(|timestamp| take_in(timestamp, &long))
+        .collect();
+    let of_last = |instructions: usize, rest: &str| {
+        let last = take_in(245, "00".repeat(8 * instructions));
+        let script = format!("{}\n{last}\n{rest}", lines.join("\n"));
+        let printed = printed(&["--n", "300"], &script);
+        let answers: Vec<String> = printed.lines().skip(245).map(str::to_string).collect();
+        answers
+    };
+    let mut entries: Vec<(u64, u8, &str)> = (1..=244).map(|t| (t, 0, long.as_str())).collect();
+    let last = "00".repeat(8 * 16);
+    entries.push((245, 0, &last));
+    let answer = format!("length 65534 {}", package(&entries));
+    let rest = "package_out 65534\npackage_out 65533\npackage_out 100000\n";
+    let answers = of_last(16, rest);
+    assert!(answers == [answer.as_str(), "refused 12", &answer]);
+    let answers = of_last(15, "package_out 65526\nwithdraw 7\npackage_out 100000\n");
+    assert!(answers[0].starts_with("length 65526 f500"));
+    assert_eq!(answers[1..], ["done", "refused 12"]);
 }

@@ -50,6 +50,8 @@ fn another_capacity_is_refused_by_every_call() {
         ("value_as_of 10 34", "refused 1"),
         ("standing 10", "refused 1"),
         ("take_in_package 0000", "refused 1"),
+        ("package_out 0", "refused 1"),
+        ("package_out 65535", "refused 1"),
         ("plain_run", "refused 1"),
     ];
     for n in [0, 4_097, 65_537, 1 << 32 | 1, usize::MAX] {
@@ -108,6 +110,7 @@ fn help() {
             "value_as_of TS S",
             "standing TS",
             "take_in_package HEX [lenL]",
+            "package_out L",
             "plain_run",
             "start_values",
             "tables",

@@ -1,8 +1,9 @@
 //! The cases of document 01, "Cases to know", with the start values (R-1) and the faults shown (R-2)
-//! of document 02, and the example scripts.
+//! of document 02, and the example scripts, of which one fills a cabinet from its neighbour (R-3).
 
 use crate::programs::{add, constant, copy, instruction, package, set, take, take_in, write};
 use crate::{assert_answers, printed};
+use std::fs;
 
 /// Carries out a case on tables just set up.
 #[track_caller]
@@ -215,11 +216,16 @@ fn package_of_the_cabinet_program() {
     ]);
 }
 
+/// The path of a file of `examples/`.
+fn example(name: &str) -> String {
+    let examples = concat!(env!("CARGO_MANIFEST_DIR"), "/../../examples");
+    format!("{examples}/{name}")
+}
+
 /// What `calls` prints for a file of `examples/`.
 #[track_caller]
 fn assert_example(name: &str, expected: &str) {
-    let examples = concat!(env!("CARGO_MANIFEST_DIR"), "/../../examples");
-    assert_eq!(printed(&[&format!("{examples}/{name}")], ""), expected);
+    assert_eq!(printed(&[&example(name)], ""), expected);
 }
 
 #[test]
@@ -266,4 +272,48 @@ totals 1 0 1 1
 value 0
 ";
     assert_example("fault.calls", expected);
+}
+
+/// What is taken in is what was written.
+#[test]
+fn example_of_a_neighbour() {
+    let package = package(&[
+        (10, 0, &set(36, 400)),
+        (20, 0, &set(36, 250)),
+        (30, 0, &copy(36, 52)),
+        (20, 1, ""),
+    ]);
+    let expected = format!(
+        "\
+done
+done
+done
+totals 2 0 0 0
+done
+totals 2 0 0 0
+value 250
+done
+totals 1 0 1 0
+value 400
+value 400
+standing 1 1
+refused 12
+length 98 {package}
+done
+value 0
+done answers [0, 0, 0, 0]
+totals 2 0 1 0
+value 400
+value 400
+standing 1 1
+length 98 {package}
+"
+    );
+    assert_example("neighbour.calls", &expected);
+    let script = fs::read_to_string(example("neighbour.calls")).expect("the example is there");
+    let taken: Vec<&str> = script
+        .lines()
+        .filter_map(|line| line.strip_prefix("take_in_package "))
+        .collect();
+    assert_eq!(taken, [package]);
 }

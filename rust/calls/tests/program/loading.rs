@@ -8,7 +8,7 @@ use calls::script::Call;
 use outside::tables::Tables;
 
 /// A call of each of those that are lent tables.
-const CALLS: [&str; 10] = [
+const CALLS: [&str; 11] = [
     "set_up",
     "take_in 10 -",
     "withdraw 10",
@@ -18,6 +18,7 @@ const CALLS: [&str; 10] = [
     "value_as_of 10 34",
     "standing 10",
     "take_in_package 0000",
+    "package_out 0",
     "plain_run",
 ];
 
@@ -183,6 +184,7 @@ fn printed_tables_are_loaded_as_they_were() {
         "turn",
         "plain_run",
         "standing 40",
+        "package_out 200",
         "tables",
     ];
     let at_once = printed(

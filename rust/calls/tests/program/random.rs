@@ -5,12 +5,12 @@ use crate::outside_tables;
 use crate::programs::hex;
 use crate::{printed, write_file};
 use comparison::generate::scripts::{Call, Source};
-use comparison::generate::Random;
+use comparison::generate::{packages, Random};
 use comparison::seeds::with_seeds;
 use outside::calls::{current_value, plain_run, set_up, standing, value_as_of, Refusal};
 use outside::checker::{drain, turn, Turned};
 use outside::intake::{take_in, withdraw, Taken};
-use outside::package::{entries, take_in_package};
+use outside::package::{entries, package_out, take_in_package};
 use outside::start::start_values;
 use outside::tables::{Status, Tables};
 use std::collections::BTreeMap;
@@ -124,7 +124,7 @@ impl Script {
     fn query(&mut self, random: &mut Random, source: &Source) {
         let (n, tables) = (self.n, &self.tables);
         let (timestamp, setting) = (source.timestamp(random), source.setting(random));
-        match random.below(11) {
+        match random.below(13) {
             0..3 => {
                 let answer = current_value(n, tables, setting).map(value);
                 self.push(format!("current {setting}"), answer);
@@ -149,6 +149,13 @@ impl Script {
                 let answer = plain_run(n, tables, &mut settings);
                 let answer = answer.map(|()| "done ".to_string() + &list(&settings));
                 self.push("plain_run".to_string(), answer);
+            }
+            10 | 11 => {
+                let mut lent = vec![0; packages::room(random, tables)];
+                let answer = package_out(n, tables, &mut lent).map(|length| {
+                    "length ".to_string() + &length.to_string() + " " + &hex(&lent[..length])
+                });
+                self.push(format!("package_out {}", lent.len()), answer);
             }
             _ => {
                 let mut settings = [0; 1024];
@@ -282,6 +289,8 @@ fn lists_of_calls_have_the_outside_answers_and_tables() {
             "standing standing",
             "standing refused 4",
             "standing refused 10",
+            "package_out length",
+            "package_out refused 12",
             "plain_run done",
             "start_values done",
             "tables ",
@@ -364,6 +373,7 @@ fn calls_on_any_tables_have_the_outside_answers_and_tables() {
         "current",
         "value_as_of",
         "standing",
+        "package_out",
         "plain_run",
     ];
     for refusal in [1, 2] {

@@ -32,6 +32,7 @@ fn lines_that_are_no_calls() {
     assert_unreadable("withdraw", "TS is missing");
     assert_unreadable("take_in 10", "HEX is missing");
     assert_unreadable("current", "S is missing");
+    assert_unreadable("package_out", "L is missing");
     assert_unreadable("load", "FILE is missing");
     assert_unreadable("turn 10", r#""10" is a word too many"#);
     assert_unreadable("turn # a comment", r##""#" is a word too many"##);
@@ -65,17 +66,27 @@ fn lines_that_are_no_calls() {
         "take_in_package 0000 len18446744073709551616",
         r#"the L of lenL is too large: "18446744073709551616""#,
     );
+    assert_unreadable(
+        "package_out len200",
+        r#"L is not a number in decimal digits: "len200""#,
+    );
+    assert_unreadable(
+        "package_out 18446744073709551616",
+        r#"L is too large: "18446744073709551616""#,
+    );
     assert_unreadable(b"turn \xFF", "this is not UTF-8");
     assert_unreadable(b"# \xE9", "this is not UTF-8");
 }
 
 #[test]
-fn an_answer_slice_beyond_all_memory() {
+fn a_slice_beyond_all_memory() {
     for length in [usize::MAX, isize::MAX as usize, isize::MAX as usize - 4096] {
-        assert_unreadable(
-            format!("take_in_package 0000 len{length}"),
-            &format!("there is no room for {length} answers"),
-        );
+        for line in ["take_in_package 0000 len", "package_out "] {
+            assert_unreadable(
+                format!("{line}{length}"),
+                &format!("there is no room for {length} bytes"),
+            );
+        }
     }
 }
 

@@ -1,28 +1,10 @@
-//! Random packages: of the layout, and with a single breach of it.
+//! Random packages: of the layout, and with a single breach of it; room for those that are written.
 
 use super::{damage, Random, Style};
-use outside::package::{Entry, ENTRY_BYTES, MAX_BYTES, MAX_ENTRIES};
+use crate::packages_out::Size;
+use outside::package::{lay_out, Entry, ENTRY_BYTES, MAX_BYTES, MAX_ENTRIES};
 use outside::program::{INSTRUCTION_BYTES, MAX_INSTRUCTIONS};
-use outside::tables::INFINITY;
-
-/// The bytes of a package with these entries. Its length is not tested.
-pub fn lay_out(entries: &[Entry]) -> Vec<u8> {
-    let mut package = (entries.len() as u16).to_le_bytes().to_vec();
-    for entry in entries {
-        let (timestamp, kind, bytes) = match entry {
-            Entry::Change { timestamp, program } => (timestamp, 0, program.len()),
-            Entry::Withdrawal { timestamp } => (timestamp, 1, 0),
-        };
-        package.extend(timestamp.to_le_bytes());
-        package.extend([kind, (bytes / INSTRUCTION_BYTES) as u8, 0, 0]);
-    }
-    for entry in entries {
-        if let Entry::Change { program, .. } = entry {
-            package.extend(program);
-        }
-    }
-    package
-}
+use outside::tables::{Tables, INFINITY};
 
 /// Entries of a package that keeps the layout, for tables that hold these timestamps: many entries
 /// name the same timestamp.
@@ -64,6 +46,20 @@ pub fn entries(random: &mut Random, held: &[u64]) -> Vec<Entry> {
 /// Contents for a lent slice of answers.
 pub fn answers(random: &mut Random, length: usize) -> Vec<u8> {
     (0..length).map(|_| random.bits() as u8).collect()
+}
+
+/// The length of a slice for the package that these tables write, which may be out of form: most
+/// often about what that needs.
+pub fn room(random: &mut Random, tables: &Tables) -> usize {
+    let needed = Size::of(tables).bytes.min(2 * MAX_BYTES);
+    match random.below(8) {
+        0 => random.below(needed),
+        1 => needed - 1,
+        2 | 3 => needed,
+        4 => needed + 1 + random.below(ENTRY_BYTES),
+        5 => random.pick(&[0, MAX_BYTES, 2 * MAX_BYTES]),
+        _ => needed + random.below(2 * needed),
+    }
 }
 
 /// A single thing for which a package breaks its layout or length.

@@ -1,8 +1,8 @@
 //! Random lists of calls, and tables, whose changes read and write the same few settings.
 
-use super::packages::{self, lay_out, Breach};
+use super::packages::{self, Breach};
 use super::{damage, tables, Random, Settings, EXTREMES};
-use outside::package::{Entry, ANSWERS};
+use outside::package::{lay_out, Entry, ANSWERS};
 use outside::program::{
     op, Access, Instruction, INSTRUCTION_BYTES, MAX_INSTRUCTIONS, REGISTERS, SETTINGS,
 };

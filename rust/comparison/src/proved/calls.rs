@@ -173,6 +173,11 @@ pub fn plain_run(n: usize, tables: &Tables, settings: &mut [i32]) -> Result<(), 
     calls::plain_run(n, tables, settings).map_err(Refusal::number)
 }
 
+/// Writes a package to the lent slice, and returns its length.
+pub fn package_out(n: usize, tables: &Tables, package: &mut [u8]) -> Result<usize, u8> {
+    calls::package_out(n, tables, package).map_err(Refusal::number)
+}
+
 /// Writes the start values to the lent slice.
 pub fn start_values(settings: &mut [i32]) -> Result<(), u8> {
     calls::start_values(settings).map_err(Refusal::number)

@@ -42,6 +42,7 @@ fn refusals_have_their_numbers() {
         (Refusal::Full, 9),
         (Refusal::NotHeld, 10),
         (Refusal::Withdrawn, 11),
+        (Refusal::Room, 12),
     ];
     for (refusal, number) in refusals {
         assert_eq!(refusal.number(), number);

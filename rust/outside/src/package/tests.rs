@@ -3,6 +3,7 @@ use crate::examples::{
     assemble, copy, four_changes, package, package_of_70_bytes, set, tables, Change,
 };
 use crate::program::Instruction;
+use crate::tables::MAX_CAPACITY;
 
 /// A program of so many stops.
 fn stops(count: usize) -> Vec<Instruction> {
@@ -291,4 +292,189 @@ fn a_breach_in_the_last_entry_leaves_the_first_out() {
     let mut package = package_of_70_bytes();
     package[2 + 2 * ENTRY_BYTES + 11] = 1;
     assert_refused(4, &Tables::new(4), &package, ANSWERS, Refusal::Package);
+}
+
+// Package out.
+
+/// What package out answers, lent so many bytes that are all 99, and what it leaves in them.
+fn written(n: usize, tables: &Tables, length: usize) -> (Result<usize, Refusal>, Vec<u8>) {
+    let mut lent = vec![99; length];
+    let answer = package_out(n, tables, &mut lent);
+    (answer, lent)
+}
+
+/// The package that tables of the highest capacity write.
+#[track_caller]
+fn package_of(tables: &Tables) -> Vec<u8> {
+    let (answer, mut lent) = written(MAX_CAPACITY, tables, MAX_BYTES);
+    lent.truncate(answer.expect("the package passes no limit"));
+    lent
+}
+
+#[track_caller]
+fn assert_no_room(n: usize, tables: &Tables, length: usize) {
+    let (answer, lent) = written(n, tables, length);
+    assert_eq!(answer, Err(Refusal::Room));
+    assert_eq!(lent, vec![99; length]);
+}
+
+/// Tables of the highest capacity that hold a change of so many stops for each of these numbers,
+/// arrived by falling timestamp, of which the first so many places are withdrawn.
+fn holding(stops_of: &[usize], withdrawn: usize) -> Tables {
+    let held = stops_of.len();
+    let change = |(place, &count)| Change {
+        timestamp: (held - place) as u64,
+        withdrawn: u16::from(place < withdrawn),
+        program: stops(count),
+        ..Change::default()
+    };
+    let changes: Vec<Change> = stops_of.iter().enumerate().map(change).collect();
+    let order: Vec<u16> = (0..held as u16).rev().collect();
+    tables(MAX_CAPACITY, &order, &changes)
+}
+
+/// The bytes that [`four_changes`] are written as.
+const FOUR_CHANGES: [&[u8]; 11] = [
+    &[5, 0],
+    &[10, 0, 0, 0, 0, 0, 0, 0, 0, 4, 0, 0],
+    &[20, 0, 0, 0, 0, 0, 0, 0, 0, 2, 0, 0],
+    &[30, 0, 0, 0, 0, 0, 0, 0, 0, 2, 0, 0],
+    &[40, 0, 0, 0, 0, 0, 0, 0, 0, 2, 0, 0],
+    &[40, 0, 0, 0, 0, 0, 0, 0, 1, 0, 0, 0],
+    // 10 sets 34 to 7 and 40 to 3.
+    &[1, 0, 0, 0, 7, 0, 0, 0, 13, 0, 0, 0, 34, 0, 0, 0],
+    &[1, 0, 0, 0, 3, 0, 0, 0, 13, 0, 0, 0, 40, 0, 0, 0],
+    // 20 sets 34 to 9, 30 copies 34 to 50, 40 sets 34 to -5.
+    &[1, 0, 0, 0, 9, 0, 0, 0, 13, 0, 0, 0, 34, 0, 0, 0],
+    &[11, 0, 0, 0, 34, 0, 0, 0, 13, 0, 0, 0, 50, 0, 0, 0],
+    &[1, 0, 0, 0, 251, 255, 255, 255, 13, 0, 0, 0, 34, 0, 0, 0],
+];
+
+#[test]
+fn four_changes_are_written() {
+    let expected = FOUR_CHANGES.concat();
+    assert_eq!(expected.len(), 142);
+    for length in [142, 143, 200, MAX_BYTES, MAX_BYTES + 1] {
+        let (answer, lent) = written(6, &four_changes(), length);
+        assert_eq!(answer, Ok(142));
+        assert_eq!(lent[..142], expected);
+        assert_eq!(lent[142..], vec![99; length - 142]);
+    }
+    for length in [0, 1, 2, 12, 141] {
+        assert_no_room(6, &four_changes(), length);
+    }
+}
+
+#[test]
+fn only_timestamps_flags_and_programs_are_written() {
+    let mut tables = four_changes();
+    tables.status[..4].copy_from_slice(&[2, 2, 1, 1]);
+    tables.written[0] = 99;
+    tables.seen[0] = 99;
+    tables.view.fill(99);
+    let (answer, lent) = written(6, &tables, 142);
+    assert_eq!((answer, lent), (Ok(142), FOUR_CHANGES.concat()));
+    // As if no change had had a turn.
+    for place in 0..4 {
+        tables.status[place] = 0;
+        tables.replace_lists(place, &[], &[]);
+    }
+    let (answer, lent) = written(6, &tables, 142);
+    assert_eq!((answer, lent), (Ok(142), FOUR_CHANGES.concat()));
+}
+
+#[test]
+fn where_nothing_is_held_a_package_of_no_entries_is_written() {
+    assert_eq!(written(1, &Tables::new(1), 3), (Ok(2), vec![0, 0, 99]));
+    assert_eq!(written(1, &Tables::new(1), 2), (Ok(2), vec![0, 0]));
+    for length in [0, 1] {
+        assert_no_room(1, &Tables::new(1), length);
+    }
+}
+
+#[test]
+fn timestamps_are_written_low_byte_first() {
+    let change = |timestamp| Change {
+        timestamp,
+        withdrawn: 1,
+        ..Change::default()
+    };
+    let changes = [change(u64::MAX - 1), change(0x0807_0605_0403_0201)];
+    let expected = [
+        &[4, 0][..],
+        &[1, 2, 3, 4, 5, 6, 7, 8, 0, 0, 0, 0],
+        &[254, 255, 255, 255, 255, 255, 255, 255, 0, 0, 0, 0],
+        &[1, 2, 3, 4, 5, 6, 7, 8, 1, 0, 0, 0],
+        &[254, 255, 255, 255, 255, 255, 255, 255, 1, 0, 0, 0],
+    ];
+    let package = package_of(&tables(MAX_CAPACITY, &[1, 0], &changes));
+    assert_eq!(package, expected.concat());
+}
+
+#[test]
+fn what_is_written_is_taken_in() {
+    let tables = holding(&[3, 0, 32, 1, 0], 2);
+    let package = package_of(&tables);
+    let (filled, answers) = taken_in(5, Tables::new(5), &package);
+    assert_eq!(answers[..7], [DONE; 7]);
+    assert_eq!(answers[7..], [99; 505]);
+    assert_eq!(filled.timestamps, [1, 2, 3, 4, 5]);
+    assert_eq!(filled.lengths, [0, 1, 32, 0, 3]);
+    assert_eq!(filled.withdrawn, [0, 0, 0, 1, 1]);
+}
+
+/// "a 16-bit count k, 0 to 512": of held changes and withdrawn ones.
+#[test]
+fn a_package_of_512_entries_is_written_and_none_of_513() {
+    for (held, withdrawn) in [(512, 0), (511, 1), (256, 256)] {
+        let package = package_of(&holding(&vec![0; held], withdrawn));
+        assert_eq!(package.len(), 2 + 512 * ENTRY_BYTES);
+        let entries = entries(&package).expect("the layout is right");
+        let changes = entries.iter();
+        let changes = changes.filter(|entry| matches!(entry, Entry::Change { .. }));
+        assert_eq!((entries.len(), changes.count()), (512, held));
+    }
+    for (held, withdrawn) in [(513, 0), (512, 1), (257, 256), (4096, 0), (4096, 4096)] {
+        let tables = holding(&vec![0; held], withdrawn);
+        assert_no_room(MAX_CAPACITY, &tables, 2 * MAX_BYTES);
+    }
+}
+
+/// "Its length is at most 65,535": 2 + 12 k + 8 s, for k entries and s instructions, leaves 2
+/// modulo 4.
+#[test]
+fn a_package_of_65534_bytes_is_written_and_none_of_65538() {
+    let with = |last: usize, withdrawn| {
+        let mut stops_of = vec![32; 245];
+        stops_of[244] = last;
+        holding(&stops_of, withdrawn)
+    };
+    assert_eq!(package_of(&with(16, 0)).len(), 65_534);
+    assert_eq!(written(MAX_CAPACITY, &with(16, 0), 65_534).0, Ok(65_534));
+    assert_no_room(MAX_CAPACITY, &with(16, 0), 65_533);
+    // 246 entries and 7,823 instructions.
+    assert_eq!(2 + 12 * 246 + 8 * (32 * 244 + 15), 65_538);
+    for (last, withdrawn) in [(15, 1), (16, 1), (17, 0), (32, 245)] {
+        assert_no_room(MAX_CAPACITY, &with(last, withdrawn), 2 * MAX_BYTES);
+    }
+    assert_eq!(package_of(&with(13, 2)).len(), 65_534);
+}
+
+#[test]
+fn a_package_is_not_written_for_1_then_2_then_12() {
+    let mut tables = four_changes();
+    assert_eq!(written(6, &tables, 141).0, Err(Refusal::Room));
+    tables.status[0] = 3;
+    for length in [0, 141, 142] {
+        assert_eq!(
+            written(6, &tables, length),
+            (Err(Refusal::Form), vec![99; length])
+        );
+        for n in [0, 5, 7, 4097] {
+            assert_eq!(
+                written(n, &tables, length),
+                (Err(Refusal::Length), vec![99; length])
+            );
+        }
+    }
 }

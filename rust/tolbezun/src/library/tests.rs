@@ -165,7 +165,7 @@ fn of_crate() -> Vec<Function> {
 #[test]
 fn header_declares_what_the_source_exports() {
     let header = of_header();
-    assert_eq!(header.len(), 11);
+    assert_eq!(header.len(), 12);
     assert_eq!(header, of_source());
 }
 

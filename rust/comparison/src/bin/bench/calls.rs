@@ -4,9 +4,9 @@ use crate::history::{self, changes, drained, sum_among, Change, FEW, SIZES};
 use crate::rows::{Rows, COLUMNS};
 use comparison::generate::Random;
 use comparison::proved::calls as proved;
-use outside::calls;
+use outside::calls::{self, Refusal};
 use outside::intake::{self, Taken};
-use outside::package::{self, ANSWERS, DONE};
+use outside::package::{self, ANSWERS, DONE, MAX_BYTES, MAX_ENTRIES};
 use outside::program::SETTINGS;
 use outside::start::start_values;
 use outside::tables::INFINITY;
@@ -29,7 +29,9 @@ pub fn print(random: &mut Random) {
         let rows = Rows::begin(n, held);
         let sums = changes(0..held, |_| sum_among(random, FEW));
         changing(&rows, &sums);
-        queries(&rows, &drained(n, &sums), sums[0].timestamp);
+        let drained = drained(n, &sums);
+        queries(&rows, &drained, sums[0].timestamp);
+        package_out(&rows, &drained, &sums);
         package(&rows, random);
     }
 }
@@ -106,6 +108,34 @@ fn queries(rows: &Rows, tables: &Tables, oldest: u64) {
             start_values(&mut settings).map(|()| settings)
         },
     );
+}
+
+/// A package of all that is held, or refusal 12 where that is too much for one.
+fn package_out(rows: &Rows, tables: &Tables, sums: &[Change]) {
+    let expected = match sums.len() {
+        ..=MAX_ENTRIES => Ok(history::package(sums)),
+        _ => Err(Refusal::Room.number()),
+    };
+    let name = match &expected {
+        Ok(package) => format!("package out, {} bytes", package.len()),
+        Err(refusal) => format!("package out, refused {refusal}"),
+    };
+    let room = expected.as_ref().map_or(MAX_BYTES, Vec::len);
+    let (written, _) = rows.row(
+        &name,
+        tables,
+        |n, tables| {
+            let mut package = vec![0; room];
+            let written = proved::package_out(n, tables, &mut package);
+            Ok(written.map(|_| package))
+        },
+        |n, tables| {
+            let mut package = vec![0; room];
+            let written = package::package_out(n, tables, &mut package);
+            Ok(written.map(|_| package).map_err(Refusal::number))
+        },
+    );
+    assert_eq!(written, expected);
 }
 
 /// A package whose entries come between the others, anywhere.

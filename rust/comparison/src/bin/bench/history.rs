@@ -1,9 +1,8 @@
 //! Histories to time calls on: changes, and the tables that the proved library makes of them.
 
-use comparison::generate::packages::lay_out;
 use comparison::generate::Random;
 use comparison::proved::calls as proved;
-use outside::package::{Entry, ANSWERS, DONE};
+use outside::package::{lay_out, Entry, ANSWERS, DONE};
 use std::iter;
 use tolbezun::{program, Instruction, Tables, MAX_CAPACITY, SETTINGS};
 

@@ -1,10 +1,13 @@
 //! Random lists of calls on tables just set up: the proved calls against the outside
-//! implementation, and demand 3.
+//! implementation, demand 3, and cabinets that are filled from others.
+
+mod filling;
 
 use comparison::both::Both;
-use comparison::generate::packages::{self, lay_out};
+use comparison::generate::packages;
 use comparison::generate::scripts::{Call, Source};
 use comparison::generate::Random;
+use comparison::packages_out::{self, PackageEvent};
 use comparison::proved::calls as proved;
 use comparison::reached::Reached;
 use comparison::seeds::{count_reached, with_seeds};
@@ -12,8 +15,9 @@ use comparison::turns::{self, TurnEvent};
 use outside::book::{self, LoggedTurn};
 use outside::calls::plain_run;
 use outside::checker::{Turn, Turned};
+use outside::filled;
 use outside::intake::Taken;
-use outside::package::{entries, Entry, ALREADY_HELD, ANSWERS, DONE};
+use outside::package::{entries, lay_out, Entry, ALREADY_HELD, ANSWERS, DONE};
 use outside::program::{op, Fault, Instruction, MAX_INSTRUCTIONS, SETTINGS};
 use outside::tables::{Status, Tables, MAX_CAPACITY};
 
@@ -55,6 +59,7 @@ enum Event {
     Drained,
     /// Tables that hold changes are set up again.
     SetUp,
+    PackageOut(PackageEvent),
 }
 
 /// A list of calls, made on both.
@@ -93,8 +98,24 @@ impl Script {
                 let (timestamp, setting) = (source.timestamp(random), source.setting(random));
                 self.both.ask_all(timestamp, setting);
             }
+            if random.below(8) == 0 {
+                let room = packages::room(random, self.both.tables());
+                let _ = self.package_out(room, reached);
+            }
         }
         self.drain(reached);
+    }
+
+    /// Writes a package, lent so many bytes, and checks it by the book.
+    fn package_out(&self, room: usize, reached: &mut Reached<Event>) -> Result<Vec<u8>, u8> {
+        let package = self.both.package_out(room);
+        for event in packages_out::events(self.both.tables(), room, &package) {
+            reached.count(Event::PackageOut(event));
+        }
+        let answer = package.as_deref().map_err(|refusal| *refusal);
+        let checked = filled::check_package(&self.calls, room, answer);
+        assert!(checked.is_ok(), "{checked:?} of {:?}", self.calls);
+        package
     }
 
     /// Makes a call and counts what comes of it.
@@ -344,8 +365,22 @@ fn lists_of_calls_have_the_same_answers_and_tables_and_meet_demand_3() {
         Event::Turn(TurnEvent::MarkedWriter),
         Event::Turn(TurnEvent::NextWriterStops),
         Event::Turn(TurnEvent::ViewOnRemoval),
+        Event::PackageOut(PackageEvent::OfNone),
+        Event::PackageOut(PackageEvent::Exact),
+        Event::PackageOut(PackageEvent::Longer),
+        Event::PackageOut(PackageEvent::OtherArrival),
+        Event::PackageOut(PackageEvent::TooShort),
+        Event::PackageOut(PackageEvent::OneByteShort),
     ] {
         reached.assert_at_least(SCRIPTS / 20, event);
+    }
+    for status in [Status::New, Status::Valid, Status::Invalid] {
+        for event in [
+            PackageEvent::Change(status),
+            PackageEvent::Withdrawn(status),
+        ] {
+            reached.assert_at_least(SCRIPTS / 20, Event::PackageOut(event));
+        }
     }
     for (answered, answers) in [
         (

@@ -1,0 +1,5 @@
+pub mod Totals
+pub mod Numbers
+pub mod Lengths
+pub mod Outcomes
+pub mod Model

@@ -1,0 +1,233 @@
+-- R-3 over cabinets, proved: what is written reads back, equal books write the same, and a cabinet filled from its neighbour drains to the same state.
+use mathlib.Core.Path.{_≡_, refl, sym, ap, ap₂, subst, _∙_}
+use mathlib.Core.Bool.{true, false}
+use mathlib.Core.List.{List, [], _∷_, _++_, map}
+use Prim.Native.Nat.{ℕ, _≤_}
+use native.Mathlib.Omega.{arith}
+use borrow.Author.Tests.{leb-true, eqb-true, eq-eqb, not-false}
+use lib.Dec.{eqb, leb}
+use lib.ListN.{length, take, drop, replicate}
+use lib.Seq.{take-at, drop-at}
+use Rattle.machine.proofs.Cases.{by-test, both, impossible}
+use Rattle.model.specs.declared.Answer.the-variants.{Done}
+use Rattle.model.specs.declared.Drained.the-variants.{Counted}
+use Rattle.model.specs.declared.Packed.{Packed}
+use Rattle.model.specs.declared.Packed.the-variants.{Length, Refused}
+use Rattle.model.specs.History.{start, New, Valid, Invalid, Lists, change, History, allSettings}
+use Rattle.model.specs.Drain.{totals}
+use Rattle.model.specs.Cabinet.{Cabinet, emptyCabinet, historyOf}
+use Rattle.model.specs.Tables.{Tables, decode}
+use Rattle.model.specs.Form.{lengthsFit, inForm, Formed}
+use Rattle.model.specs.Refusals.{firstOf, wrongLengths, notInForm, noRoom}
+use Rattle.model.specs.Package.{Item, entryCount, layoutFits, itemAt, itemsOf, packageOf}
+use Rattle.model.specs.Book.{Book, booked, bookOf, takings, withdrawals, bookedItems, freshRun, freshEnd}
+use Rattle.model.specs.Calls.{setUp, takeInPackage, drain, heldItems, PackedReply, packageOut}
+use Rattle.model.specs.Log.{Call, packageCall, bookItems, Ledger, begun, afterCall, drainEvents}
+use Rattle.model.specs.Sound.{Sound}
+use Rattle.model.proofs.Keeps.{drain-sound, history-sound}
+use Rattle.model.proofs.Items.{none-applies}
+use Rattle.model.proofs.Figure.{AllValid, drain-ends}
+use Rattle.model.proofs.Tabulate.{length-tabulate}
+use Rattle.model.proofs.Tests.{lengths-of}
+use Rattle.model.proofs.Tables.{decode-encode}
+use Rattle.model.proofs.Form.{encode-formed, facts}
+use Rattle.theory.specs.Demand.{listed, Drains}
+use Rattle.theory.specs.Packages.{cabinetOf, writtenOf, ReadsBack, SamePackage, takenInto, Filled}
+use Rattle.theory.proofs.Calls.{empty-sound, drained, drain-call, drained-history}
+use Rattle.theory.proofs.Reached.{Holding}
+use Rattle.theory.proofs.Demand.{reached, demand3}
+use Rattle.theory.proofs.ReadBack.{AllPackable, items-back, layout-fits}
+use Rattle.theory.proofs.Filling.{SoundBook, sound-book, Fills, book-fills, all-done, all-booked}
+
+-- ---- the items of what is held
+
+takings-packable : (a : ℕ) (book : Book) → SoundBook a book → AllPackable (takings book)
+takings-packable a [] s = tt
+takings-packable a (booked t p w ∷ book) s = ((omega (arith, s .1), s .2), takings-packable t book (s .4))
+
+withdrawals-packable : (a : ℕ) (book : Book) → SoundBook a book → AllPackable (withdrawals book)
+withdrawals-packable a [] s = tt
+withdrawals-packable a (booked t p true ∷ book) s = (omega (arith, s .1), withdrawals-packable t book (s .4))
+withdrawals-packable a (booked t p false ∷ book) s = withdrawals-packable t book (s .4)
+
+both-packable : (items more : List Item) → AllPackable items → AllPackable more → AllPackable (items ++ more)
+both-packable [] more a b = b
+both-packable (i ∷ items) more a b = (a .0, both-packable items more (a .1) b)
+
+held-book : {n : ℕ} {T : Tables} → Formed n T → SoundBook 0 (bookOf (historyOf (decode T)))
+held-book {n} {T} g = let s = facts g .sound in sound-book 0 (historyOf (decode T)) (s .rising) (history-sound s)
+
+held-packable : {n : ℕ} {T : Tables} → Formed n T → AllPackable (heldItems T)
+held-packable {n} {T} g =
+    let book = bookOf (historyOf (decode T)) in
+    let s = held-book g in
+    both-packable (takings book) (withdrawals book) (takings-packable 0 book s) (withdrawals-packable 0 book s)
+
+-- ---- what a length that is answered tells
+
+record Wrote (n : ℕ) (T : Tables) (bytes : List ℕ) (size : ℕ) : Type 0 where
+  formed : Formed n T
+  few : length (heldItems T) ≤ 512
+  short : length (packageOf (heldItems T)) ≤ 65535
+  sized : length (packageOf (heldItems T)) ≡ size
+  left : packageOut n T bytes .bytes ≡ packageOf (heldItems T) ++ drop (length (packageOf (heldItems T))) bytes
+
+length-of : Packed → ℕ
+length-of (Length size) = size
+length-of (Refused r) = 0
+
+module _ (n : ℕ) (T : Tables) (bytes : List ℕ) (size : ℕ) where
+  abbrev refusal : ℕ
+  refusal = firstOf (wrongLengths n T ∷ notInForm n T ∷ noRoom (length (heldItems T)) (length (packageOf (heldItems T))) (length bytes) ∷ [])
+
+  wrote : packageOut n T bytes .answer ≡ Length size → Wrote n T bytes size
+  unfolding packageOut length-of
+  wrote e =
+      by-test (λ (r : PackedReply). r .answer ≡ Length size → r .bytes ≡ packageOut n T bytes .bytes → Wrote n T bytes size) (eqb refusal 0)
+      (λ q a l.
+      let none = none-applies (wrongLengths n T ∷ notInForm n T ∷ noRoom (length (heldItems T)) (length (packageOf (heldItems T))) (length bytes) ∷ []) (omega arith) (eqb-true refusal 0 q) in
+      let room = both (leb (length (heldItems T)) 512) (not-false _ (none .1 .1 .0)) in
+      let limits = both (leb (length (packageOf (heldItems T))) 65535) (room .1) in
+      record {
+        formed = record { sized = not-false (lengthsFit n T) (none .0); form = not-false (inForm n T) (none .1 .0) };
+        few = leb-true _ _ (room .0);
+        short = leb-true _ _ (limits .0);
+        sized = ap length-of a;
+        left = sym l;
+      })
+      (λ q a l. impossible (cc)) e refl
+
+  -- the package itself
+  written-is : Wrote n T bytes size → writtenOf n T bytes size ≡ packageOf (heldItems T)
+  written-is w = ap (take size) (w .left) ∙ take-at (packageOf (heldItems T)) _ size (w .sized)
+
+pub reads-back : (n : ℕ) (T : Tables) (bytes : List ℕ) (size : ℕ) → packageOut n T bytes .answer ≡ Length size → ReadsBack n T bytes size
+reads-back n T bytes size e =
+    let w = wrote n T bytes size e in
+    let same = written-is n T bytes size w in
+    let all = held-packable (w .formed) in
+    record {
+      layout = ap layoutFits same ∙ layout-fits (heldItems T) all (w .few) (w .short);
+      items = ap itemsOf same ∙ items-back (heldItems T) all (w .few);
+      counted = ap length same ∙ w .sized;
+      later =
+          ap (drop size) (w .left)
+          ∙ drop-at (packageOf (heldItems T)) _ size (w .sized)
+          ∙ ap (λ (k : ℕ). drop k bytes) (w .sized);
+    }
+
+-- ---- cabinets
+
+-- what is held is the book
+held-items : (n : ℕ) (c : Cabinet) (k : Ledger) → Holding n c k → heldItems (k .tables) ≡ bookedItems (k .book)
+held-items n c k h =
+    ap (λ (T : Tables). heldItems T) (h .tables)
+    ∙ ap (λ (d : Cabinet). bookedItems (bookOf (historyOf d))) (decode-encode n c (h .sound))
+    ∙ ap bookedItems (h .booked)
+
+pub same-package : (n : ℕ) (T : Tables) → lengthsFit n T ≡ true → (calls : List Call) → (n' : ℕ) (T' : Tables) → lengthsFit n' T' ≡ true → (calls' : List Call) → SamePackage n (cabinetOf n T calls) n' (cabinetOf n' T' calls')
+same-package n T fits calls n' T' fits' calls' same bytes bytes' size size' e e' =
+    let k = cabinetOf n T calls in
+    let k' = cabinetOf n' T' calls' in
+    let r = reached n T fits calls in
+    let r' = reached n' T' fits' calls' in
+    let w = wrote n (k .tables) bytes size e in
+    let w' = wrote n' (k' .tables) bytes' size' e' in
+    let items : packageOf (heldItems (k .tables)) ≡ packageOf (heldItems (k' .tables)) = ap packageOf (held-items n (r .cabinet) k (r .holding) ∙ ap bookedItems same ∙ sym (held-items n' (r' .cabinet) k' (r' .holding))) in
+    (sym (w .sized) ∙ ap length items ∙ w' .sized, written-is n (k .tables) bytes size w ∙ items ∙ sym (written-is n' (k' .tables) bytes' size' w'))
+
+-- ---- after a drain
+
+-- a book with lists, every change Valid
+abbrev settled : Book → List (ℕ × Lists) → History
+settled [] lists = []
+settled (b ∷ book) [] = []
+settled (booked t p w ∷ book) (l ∷ lists) = change t p Valid w (l .1) ∷ settled book lists
+
+settled-is : (h : History) → AllValid h → h ≡ settled (bookOf h) (map listed h)
+settled-is [] v = refl
+settled-is (change t p New w l ∷ h) v = absurd v
+settled-is (change t p Invalid w l ∷ h) v = absurd v
+settled-is (change t p Valid w l ∷ h) v = ap (change t p Valid w l ∷_) (settled-is h v)
+
+-- the changes are those of the book's fresh run
+drained-changes : (n : ℕ) (c : Cabinet) (k : Ledger) → Holding n c k → Drains n k → historyOf (decode (drain n (k .tables) .tables)) ≡ settled (k .book) (freshRun (k .book) start)
+drained-changes n c k h d =
+    let s = h .sound in
+    let back : historyOf (decode (drain n (k .tables) .tables)) ≡ historyOf (drained c) = rw (h .tables, drain-call s, decode-encode n (drained c) (drain-sound s)) in
+    let valid : AllValid (historyOf (drained c)) = rw (drained-history s) (drain-ends start (historyOf c) (c .view) (s .rising) .all-valid) in
+    settled-is (historyOf (decode (drain n (k .tables) .tables))) (subst AllValid (sym back) valid) ∙ ap₂ settled (d .booked) (d .fresh-lists)
+
+-- ---- filling
+
+-- a package whose items fill a book, taken into tables just set up
+taken-in : (n : ℕ) (U : Tables) (written answers : List ℕ) (book : Book) → lengthsFit n U ≡ true → length answers ≡ 512 → layoutFits written ≡ true → Fills n [] (itemsOf written) book → (takenInto n U written answers .answer ≡ Done) × (takenInto n U written answers .answers ≡ replicate (length (itemsOf written)) 0 ++ drop (length (itemsOf written)) answers)
+unfolding setUp takeInPackage
+taken-in n U written answers book fits long layout fills =
+    let s : Sound n emptyCabinet = empty-sound n U (lengths-of n U fits) in
+    let f = encode-formed s in
+    rw (fits, f .sized, f .form, eq-eqb (length answers) 512 long, layout, decode-encode n emptyCabinet s, all-done (itemsOf written) book s fills) (refl, refl)
+
+items-counted : (bytes : List ℕ) → length (itemsOf bytes) ≡ entryCount bytes
+unfolding itemsOf
+items-counted bytes = length-tabulate (entryCount bytes) (itemAt bytes)
+
+-- the ledger after it
+module _ (n : ℕ) (T : Tables) (written answers : List ℕ) where
+  package-tables : afterCall n (packageCall written answers) (begun T) .tables ≡ takeInPackage n T written answers .tables
+  unfolding afterCall
+  package-tables = refl
+
+  package-book : takeInPackage n T written answers .answer ≡ Done → afterCall n (packageCall written answers) (begun T) .book ≡ bookItems (itemsOf written) (takeInPackage n T written answers .answers) []
+  unfolding afterCall
+  package-book done = rw done
+
+-- what is claimed of the tables after it
+record DrainsAs (n : ℕ) (k : Ledger) (n' : ℕ) (U : Tables) : Type 0 where
+  answered : drain n' U .answer ≡ Counted (totals (drainEvents n' U))
+  changes : historyOf (decode (drain n' U .tables)) ≡ historyOf (decode (drain n (k .tables) .tables))
+  view : drain n' U .tables .view ≡ drain n (k .tables) .tables .view
+
+-- cabinets with equal books drain to the same state
+same-drained : (n : ℕ) (T : Tables) → lengthsFit n T ≡ true → (calls : List Call) → (n' : ℕ) (T' : Tables) → lengthsFit n' T' ≡ true → (calls' : List Call) → cabinetOf n' T' calls' .book ≡ cabinetOf n T calls .book → DrainsAs n (cabinetOf n T calls) n' (cabinetOf n' T' calls' .tables)
+same-drained n T fits calls n' T' fits' calls' same =
+    let k = cabinetOf n T calls in
+    let k' = cabinetOf n' T' calls' in
+    let r = reached n T fits calls in
+    let r' = reached n' T' fits' calls' in
+    let d = demand3 n T fits calls in
+    let d' = demand3 n' T' fits' calls' in
+    record {
+      answered = d' .answered;
+      changes =
+          drained-changes n' (r' .cabinet) k' (r' .holding) d'
+          ∙ ap (λ (book : Book). settled book (freshRun book start)) same
+          ∙ sym (drained-changes n (r .cabinet) k (r .holding) d);
+      view = d' .fresh-view ∙ ap (λ (book : Book). allSettings (freshEnd book start)) same ∙ sym (d .fresh-view);
+    }
+
+pub filled : (n : ℕ) (T : Tables) → lengthsFit n T ≡ true → (calls : List Call) → Filled n (cabinetOf n T calls)
+filled n T fits calls bytes size e n' U answers fits' room long =
+    let k = cabinetOf n T calls in
+    let r = reached n T fits calls in
+    let s = r .holding .sound in
+    let written = writtenOf n (k .tables) bytes size in
+    let back = reads-back n (k .tables) bytes size e in
+    let items : itemsOf written ≡ bookedItems (k .book) = back .items ∙ held-items n (r .cabinet) k (r .holding) in
+    let sound : SoundBook 0 (k .book) = subst (SoundBook 0) (r .holding .booked) (sound-book 0 (historyOf (r .cabinet)) (s .rising) (history-sound s)) in
+    let fills : Fills n' [] (itemsOf written) (k .book) = rw (← items) at (book-fills n' (k .book) sound room) in
+    let taken = taken-in n' U written answers (k .book) fits' long (back .layout) fills in
+    let same : cabinetOf n' U (packageCall written answers ∷ []) .book ≡ k .book =
+    package-book n' (setUp n' U .tables) written answers (taken .0)
+    ∙ ap (λ (l : List ℕ). bookItems (itemsOf written) l []) (taken .1)
+    ∙ all-booked n' [] (itemsOf written) (k .book) (drop (length (itemsOf written)) answers) fills in
+    let d = subst (DrainsAs n k n') (package-tables n' (setUp n' U .tables) written answers) (same-drained n T fits calls n' U fits' (packageCall written answers ∷ []) same) in
+    record {
+      done = taken .0;
+      each-done = taken .1 ∙ ap (λ (m : ℕ). replicate m 0 ++ drop m answers) (items-counted written);
+      same-book = same;
+      drained = d .answered;
+      neighbour-drained = demand3 n T fits calls .answered;
+      changes = d .changes;
+      view = d .view;
+    }
