@@ -18,6 +18,13 @@ unfoldable pub numberAt : List ℕ → ℕ → ℕ → ℕ
 numberAt bytes i zero = 0
 numberAt bytes i (suc k) = getD bytes i 0 + 256 * numberAt bytes (suc i) k
 
+-- the limits of a package: its entries and its bytes
+abbrev pub entryLimit : ℕ
+entryLimit = 512
+
+abbrev pub byteLimit : ℕ
+byteLimit = 65535
+
 -- k, the number of entries, from 0 to 512
 abbrev pub entryCount : List ℕ → ℕ
 entryCount bytes = numberAt bytes 0 2
@@ -60,8 +67,8 @@ unfoldable pub layoutFits : List ℕ → Bool
 layoutFits bytes =
     every
     (leb 2 (length bytes)
-    ∷ leb (length bytes) 65535
-    ∷ leb (entryCount bytes) 512
+    ∷ leb (length bytes) byteLimit
+    ∷ leb (entryCount bytes) entryLimit
     ∷ leb (entryAt (entryCount bytes)) (length bytes)
     ∷ allBelow (entryCount bytes) (entryFits bytes)
     ∷ eqb (length bytes) (bodyAt bytes (entryCount bytes))

@@ -11,6 +11,7 @@ use Rattle.model.specs.History.{isTimestamp, Change, program, withdrawn}
 use Rattle.model.specs.Cabinet.{Cabinet, historyOf, find}
 use Rattle.model.specs.Tables.{Tables}
 use Rattle.model.specs.Form.{every, lengthsFit, inForm}
+use Rattle.model.specs.Package.{entryLimit, byteLimit}
 
 -- the number of a refusal, and whether it applies
 pub record Test : Type 0 where
@@ -95,6 +96,6 @@ notHeld c t = test 10 (not (isHeld (find t (historyOf c))))
 abbrev pub withdrawnAlready : Cabinet → ℕ → Test
 withdrawnAlready c t = test 11 (isWithdrawn (find t (historyOf c)))
 
--- 12: a package would have more than 512 entries or 65,535 bytes, or more bytes than are lent (document 02, R-3: "the package would pass its own limits or the lent slice")
+-- 12: "the package would pass its own limits or the lent slice" (document 02, R-3): it would have more than 512 entries, more than 65,535 bytes, or more bytes than are lent
 abbrev pub noRoom : ℕ → ℕ → ℕ → Test
-noRoom entries size lent = test 12 (not (every (leb entries 512 ∷ leb size 65535 ∷ leb size lent ∷ [])))
+noRoom entries size lent = test 12 (not (every (leb entries entryLimit ∷ leb size byteLimit ∷ leb size lent ∷ [])))
