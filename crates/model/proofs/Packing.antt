@@ -1,10 +1,16 @@
--- How long a package is, and what it is of a history: laws of what is laid out.
+-- How many items a package has, and how long one is.
 use mathlib.Core.Path.{_≡_, refl, _∙_}
 use mathlib.Core.List.{List, [], _∷_, _++_}
-use Prim.Native.Nat.{_+_, _*_}
+use Prim.Native.Nat.{ℕ, _+_, _*_}
 use native.Mathlib.Omega.{arith}
 use lib.ListN.{length, length-append}
-use Rattle.model.specs.Package.{Item, taking, withdrawing, itemEntry, itemBody, joined, numberBytes, packageOf}
+use Rattle.model.specs.Package.{Item, taking, withdrawing, entryCount, itemAt, itemsOf, itemEntry, itemBody, joined, numberBytes, packageOf}
+use Rattle.model.proofs.Tabulate.{length-tabulate}
+
+-- as many items as there are entries
+pub items-count : (bytes : List ℕ) → length (itemsOf bytes) ≡ entryCount bytes
+unfolding itemsOf
+items-count bytes = length-tabulate (entryCount bytes) (itemAt bytes)
 
 -- an entry has 12 bytes
 length-entry : (i : Item) → length (itemEntry i) ≡ 12

@@ -14,9 +14,10 @@ use Rattle.model.specs.Calls.{answerNumber, itemAnswer, itemStep, itemAnswers, 
 use Rattle.model.specs.Sound.{Sound}
 use Rattle.model.proofs.Form.{facts, encode-formed}
 use Rattle.model.proofs.Items.{items-sound, length-itemAnswers}
+use Rattle.model.proofs.Packing.{items-count}
 use Rattle.model.specs.Form.{Formed}
 use Rattle.packages.proofs.Entries.{body-first, body-next}
-use Rattle.packages.proofs.Items.{items-count, items-all, items-next}
+use Rattle.packages.proofs.Items.{items-all, items-next}
 
 -- ---- one item more
 

@@ -5,27 +5,23 @@ use Prim.Native.Nat.{ℕ, _+_, _-_, _*_, _<_}
 use native.Mathlib.Numerals.{add-one}
 use native.Mathlib.Omega.{arith}
 use borrow.Author.Tests.{eq-eqb, ne-eqb}
-use lib.ListN.{length, take, drop}
+use lib.ListN.{take, drop}
 use lib.Seq.{take-all, take-suc}
 use Rattle.model.specs.Package.{Item, taking, withdrawing, entryCount, stampOf, kindOf, countOf, bodyAt, itemAt, itemsOf}
-use Rattle.model.proofs.Tabulate.{length-tabulate, getD-tabulate}
+use Rattle.model.proofs.Tabulate.{getD-tabulate}
+use Rattle.model.proofs.Packing.{items-count}
 
 module _ (bytes : List ℕ) where
-  -- as many as there are entries
-  pub items-count : length (itemsOf bytes) ≡ entryCount bytes
-  unfolding itemsOf
-  items-count = length-tabulate (entryCount bytes) (itemAt bytes)
-
   -- those of all entries
   pub items-all : {j : ℕ} → j ≡ entryCount bytes → take j (itemsOf bytes) ≡ itemsOf bytes
-  items-all {j} e = take-all j (itemsOf bytes) (omega (arith, items-count))
+  items-all {j} e = take-all j (itemsOf bytes) (omega (arith, items-count bytes))
 
   -- that of entry j, after those before it
   pub items-next : (j : ℕ) → j < entryCount bytes → take (j + 1) (itemsOf bytes) ≡ take j (itemsOf bytes) ++ (itemAt bytes j ∷ [])
   unfolding itemsOf
   items-next j h =
       rw add-one
-      (take-suc (itemsOf bytes) j (withdrawing 0) (omega (arith, items-count))
+      (take-suc (itemsOf bytes) j (withdrawing 0) (omega (arith, items-count bytes))
       ∙ ap (λ (i : Item). take j (itemsOf bytes) ++ (i ∷ [])) (getD-tabulate (entryCount bytes) (itemAt bytes) j (withdrawing 0) h))
 
   -- ---- the item of an entry, by its parts as the code has them

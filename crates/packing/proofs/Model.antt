@@ -15,10 +15,10 @@ use Rattle.model.specs.Sound.{AllSound}
 use Rattle.model.specs.Package.{entryBytes, itemEntry, itemBody, joined, packageOf, numberBytes}
 use Rattle.model.specs.Book.{Book, booked, bookedAs, bookOf, takings, withdrawals, bookedItems}
 use Rattle.model.specs.Calls.{heldItems}
-use Rattle.model.proofs.Tables.{timestamp-at, withdrawn-at, length-at, program-back}
+use Rattle.model.proofs.Tables.{withdrawn-at, length-at, program-back}
 use Rattle.model.proofs.Packing.{length-entries}
 use Rattle.model.proofs.Form.{facts}
-use Rattle.search.proofs.Model.{historyIn, placed-stamps, held-changes, history-length, by-place}
+use Rattle.search.proofs.Model.{historyIn, placed-stamps, held-changes, history-length, by-place, stamped}
 use Rattle.packing.specs.Packing.{changeEntry, withdrawalBytes, withdrawalEntry, bodyIn, entriesIn, packageIn}
 use Rattle.packing.specs.Lent.{AtMost, HeldParts}
 use Rattle.packing.proofs.Lengths.{withdrawals-length}
@@ -90,9 +90,6 @@ module _ {n : ℕ} {T : Tables} (g : Formed n T) where
     abbrev place : ℕ
     place = getD (T .order) k 0
 
-    held-stamp : getD (T .timestamps) place 0 ≡ timestamp (getD (historyIn T) k blank)
-    held-stamp = ap (λ (U : Tables). getD (U .timestamps) place 0) (sym (facts g .laid)) ∙ timestamp-at n (decode T) place ∙ ap timestamp (by-place g k h)
-
     held-flag : getD (T .withdrawn) place 0 ≡ flagNumber (withdrawn (getD (historyIn T) k blank))
     held-flag = ap (λ (U : Tables). getD (U .withdrawn) place 0) (sym (facts g .laid)) ∙ withdrawn-at n (decode T) place ∙ ap (λ (c : Change). flagNumber (withdrawn c)) (by-place g k h)
 
@@ -109,13 +106,13 @@ module _ {n : ℕ} {T : Tables} (g : Formed n T) where
   changes-put : piecesBelow count (changeEntry (T .order) (T .timestamps) (T .lengths)) ≡ joined itemEntry (takings (bookOf (historyIn T)))
   changes-put =
       ap (λ (k : ℕ). piecesBelow k (changeEntry (T .order) (T .timestamps) (T .lengths))) (sym (history-length g))
-      ∙ pieces-joined changeOf (changeEntry (T .order) (T .timestamps) (T .lengths)) (historyIn T) blank (λ k h. let q : k < count = omega (arith, h, history-length g) in ap₂ (λ (t l : ℕ). entryBytes t 0 l) (held-stamp k q) (held-length k q))
+      ∙ pieces-joined changeOf (changeEntry (T .order) (T .timestamps) (T .lengths)) (historyIn T) blank (λ k h. let q : k < count = omega (arith, h, history-length g) in ap₂ (λ (t l : ℕ). entryBytes t 0 l) (stamped g k q) (held-length k q))
       ∙ changes-of (historyIn T)
 
   withdrawals-put : piecesBelow count (withdrawalEntry (T .order) (T .timestamps) (T .withdrawn)) ≡ joined itemEntry (withdrawals (bookOf (historyIn T)))
   withdrawals-put =
       ap (λ (k : ℕ). piecesBelow k (withdrawalEntry (T .order) (T .timestamps) (T .withdrawn))) (sym (history-length g))
-      ∙ pieces-joined withdrawalOf (withdrawalEntry (T .order) (T .timestamps) (T .withdrawn)) (historyIn T) blank (λ k h. let q : k < count = omega (arith, h, history-length g) in ap₂ withdrawalBytes (held-flag k q) (held-stamp k q))
+      ∙ pieces-joined withdrawalOf (withdrawalEntry (T .order) (T .timestamps) (T .withdrawn)) (historyIn T) blank (λ k h. let q : k < count = omega (arith, h, history-length g) in ap₂ withdrawalBytes (held-flag k q) (stamped g k q))
       ∙ withdrawals-of (historyIn T)
 
   bodies-put : piecesBelow count (bodyIn (T .order) (T .lengths) (T .programs)) ≡ joined itemBody (takings (bookOf (historyIn T)))

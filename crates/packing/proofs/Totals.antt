@@ -9,7 +9,7 @@ use Rattle.packing.specs.Packing.{totalOf}
 
 module _ (order column : List ℕ) where
   -- one place more
-  pub total-next : (k : ℕ) → totalOf order column (k + 1) ≡ totalOf order column k + getD column (getD order k 0) 0
+  total-next : (k : ℕ) → totalOf order column (k + 1) ≡ totalOf order column k + getD column (getD order k 0) 0
   unfolding totalOf
   total-next k = rw add-one
 

@@ -99,7 +99,7 @@ module _ {n : ℕ} {T : Tables} (g : Formed n T) where
     pub by-place : getD (decode T .changes) (getD (T .order) k 0) blank ≡ getD (historyIn T) k blank
     by-place = ap (λ (i : ℕ). getD (decode T .changes) i blank) (place-of k) ∙ sym change-of
 
-    stamped : stampIn T k ≡ timestamp (getD (historyIn T) k blank)
+    pub stamped : stampIn T k ≡ timestamp (getD (historyIn T) k blank)
     stamped =
         ap (λ (U : Tables). getD (U .timestamps) (getD (T .order) k 0) 0) (sym (facts g .laid))
         ∙ timestamp-at n (decode T) (getD (T .order) k 0)

@@ -145,12 +145,12 @@ unheld : (found : Option Change) → markIn found ≡ none → found ≡ none
 unheld none e = refl
 unheld (some c) e = cc
 
-abbrev Standing : Option Change → Type 0
-Standing found = (c : Change) × (found ≡ some c) × (withdrawn c ≡ false)
+abbrev NotWithdrawn : Option Change → Type 0
+NotWithdrawn found = (c : Change) × (found ≡ some c) × (withdrawn c ≡ false)
 
-standing : (found : Option Change) → markIn found ≡ some false → Standing found
-standing none e = impossible (cc)
-standing (some c) e = (c, refl, cc)
+not-withdrawn : (found : Option Change) → markIn found ≡ some false → NotWithdrawn found
+not-withdrawn none e = impossible (cc)
+not-withdrawn (some c) e = (c, refl, cc)
 
 module _ {n : ℕ} {c : Cabinet} (s : Sound n c) where
   as-many : length (bookOf (historyOf c)) ≡ length (c .changes)
@@ -162,7 +162,7 @@ module _ {n : ℕ} {c : Cabinet} (s : Sound n c) where
       let none-found : find t (historyOf c) ≡ none = unheld (find t (historyOf c)) (mark-found t (historyOf c) ∙ free) in
       rw (lt-ltb 0 t above, lt-ltb t infinity below, sized, formed, none-found, lt-leb n (length (c .changes)) (omega (arith, room, as-many)))
   accepted (withdrawing t) (above, below, marked) =
-      let (u, found, stands) = standing (find t (historyOf c)) (mark-found t (historyOf c) ∙ marked) in
+      let (u, found, stands) = not-withdrawn (find t (historyOf c)) (mark-found t (historyOf c) ∙ marked) in
       rw (lt-ltb 0 t above, lt-ltb t infinity below, found, stands)
 
 pub all-done : {n : ℕ} {c : Cabinet} (items : List Item) (last : Book) → Sound n c → Fills n (bookOf (historyOf c)) items last → map answerNumber (itemAnswers n c items) ≡ replicate (length items) 0

@@ -19,7 +19,7 @@ use Rattle.model.specs.Cabinet.{Cabinet, emptyCabinet, historyOf}
 use Rattle.model.specs.Tables.{Tables, decode}
 use Rattle.model.specs.Form.{lengthsFit, inForm, Formed}
 use Rattle.model.specs.Refusals.{firstOf, wrongLengths, notInForm, noRoom}
-use Rattle.model.specs.Package.{Item, entryCount, layoutFits, itemAt, itemsOf, packageOf}
+use Rattle.model.specs.Package.{Item, layoutFits, itemsOf, packageOf}
 use Rattle.model.specs.Book.{Book, booked, bookOf, takings, withdrawals, bookedItems, freshRun, freshEnd}
 use Rattle.model.specs.Calls.{setUp, takeInPackage, drain, heldItems, PackedReply, packageOut}
 use Rattle.model.specs.Log.{Call, packageCall, bookItems, Ledger, begun, afterCall, drainEvents}
@@ -27,7 +27,7 @@ use Rattle.model.specs.Sound.{Sound}
 use Rattle.model.proofs.Keeps.{drain-sound, history-sound}
 use Rattle.model.proofs.Items.{none-applies}
 use Rattle.model.proofs.Figure.{AllValid, drain-ends}
-use Rattle.model.proofs.Tabulate.{length-tabulate}
+use Rattle.model.proofs.Packing.{items-count}
 use Rattle.model.proofs.Tests.{lengths-of}
 use Rattle.model.proofs.Tables.{decode-encode}
 use Rattle.model.proofs.Form.{encode-formed, facts}
@@ -168,10 +168,6 @@ taken-in n U written answers book fits long layout fills =
     let f = encode-formed s in
     rw (fits, f .sized, f .form, eq-eqb (length answers) 512 long, layout, decode-encode n emptyCabinet s, all-done (itemsOf written) book s fills) (refl, refl)
 
-items-counted : (bytes : List ℕ) → length (itemsOf bytes) ≡ entryCount bytes
-unfolding itemsOf
-items-counted bytes = length-tabulate (entryCount bytes) (itemAt bytes)
-
 -- the ledger after it
 module _ (n : ℕ) (T : Tables) (written answers : List ℕ) where
   package-tables : afterCall n (packageCall written answers) (begun T) .tables ≡ takeInPackage n T written answers .tables
@@ -224,7 +220,7 @@ filled n T fits calls bytes size e n' U answers fits' room long =
     let d = subst (DrainsAs n k n') (package-tables n' (setUp n' U .tables) written answers) (same-drained n T fits calls n' U fits' (packageCall written answers ∷ []) same) in
     record {
       done = taken .0;
-      each-done = taken .1 ∙ ap (λ (m : ℕ). replicate m 0 ++ drop m answers) (items-counted written);
+      each-done = taken .1 ∙ ap (λ (m : ℕ). replicate m 0 ++ drop m answers) (items-count written);
       same-book = same;
       drained = d .answered;
       neighbour-drained = demand3 n T fits calls .answered;
