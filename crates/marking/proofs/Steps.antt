@@ -1,6 +1,6 @@
 -- One step of each loop.
 use mathlib.Core.Path.{_≡_, refl, sym, ap, _∙_}
-use mathlib.Core.Bool.{Bool, true, false, cond, _||_, or-assoc, or-false}
+use mathlib.Core.Bool.{Bool, true, false, cond, _||_}
 use mathlib.Core.List.{List, [], _∷_}
 use Prim.Native.Nat.{ℕ, zero, suc, _+_, _-_, _*_, _<_, _≤_}
 use native.Mathlib.Numerals.{add-one}
@@ -12,27 +12,16 @@ use lib.ListN.{length, getD, set, take, drop, drop-of-length-le}
 use lib.Seq.{drop-cons, getD-drop}
 use Rattle.machine.specs.Settings.{valueIn}
 use Rattle.model.specs.Form.{holds}
+use Rattle.search.proofs.Named.{lent-first}
 use Rattle.marking.proofs.Walks.{place-length}
 use Rattle.marking.specs.Marks.{Columns, listAt, writesSetting, markedPlace, markedFrom, endFrom, followed, Listed, Walkable}
 use Rattle.marking.specs.Uses.{numbered}
 
 -- ---- a list of settings
 
-module _ (s : ℕ) (settings : List ℕ) (j : ℕ) (found : Bool) where
-  pub names-next : j < length settings → ((found || eqb (getD settings j 0) s) || holds s (drop (j + 1) settings)) ≡ (found || holds s (drop j settings))
-  names-next h =
-      or-assoc found (eqb (getD settings j 0) s) (holds s (drop (j + 1) settings))
-      ∙ ap (λ (m : ℕ). found || (eqb (getD settings j 0) s || holds s (drop m settings))) (add-one j)
-      ∙ ap (λ (l : List ℕ). found || holds s l) (sym (drop-cons settings j 0 h))
-
-  pub names-end : length settings ≤ j → found ≡ (found || holds s (drop j settings))
-  names-end h = rw (drop-of-length-le settings {i = j} h) (sym (or-false found))
-
 -- the list of a place, as it is lent: from its first slot up to its count
 pub lent-list : (place : ℕ) (counts settings : List ℕ) → take (32 * place + getD counts place 0 - 32 * place) (drop (32 * place) settings) ≡ listAt counts settings place
-lent-list place counts settings =
-    let e : 32 * place + getD counts place 0 - 32 * place ≡ getD counts place 0 = omega arith in
-    ap (λ (m : ℕ). take m (drop (32 * place) settings)) e
+lent-list place counts settings = lent-first place (getD counts place 0) settings
 
 -- zeros behind a list name no setting but 0
 zeros-name : (s : ℕ) → (s ≡ 0 → ⊥) → (count m : ℕ) (l : List ℕ) → count ≤ m → ((j : ℕ) → count ≤ j → j < m → getD l j 0 ≡ 0) → holds s (take m l) ≡ holds s (take count l)
@@ -48,8 +37,7 @@ zeros-name s n (suc count) (suc m) (x ∷ l) h z = ap (eqb x s ||_) (zeros-name 
 -- so the 32 slots of a place, as they are lent, tell of such a setting what the list tells
 pub lent-slots : (s place : ℕ) (counts settings : List ℕ) → (s ≡ 0 → ⊥) → Listed place counts settings → holds s (take (32 * place + 32 - 32 * place) (drop (32 * place) settings)) ≡ holds s (listAt counts settings place)
 lent-slots s place counts settings n l =
-    let e : 32 * place + 32 - 32 * place ≡ 32 = omega arith in
-    ap (λ (m : ℕ). holds s (take m (drop (32 * place) settings))) e
+    ap (holds s) (lent-first place 32 settings)
     ∙ zeros-name s n (getD counts place 0) 32 (drop (32 * place) settings) (l .short) (λ j a b. getD-drop (32 * place) settings j 0 ∙ l .rest j a b)
 
 -- ---- a place marked

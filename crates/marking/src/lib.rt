@@ -1,4 +1,5 @@
 // Later readers of changed settings are marked, and the view follows, setting by setting. What is known of each setting spares walks in which nothing can be marked.
+use search::names_setting;
 ghost use mathlib.Core.Path.{_≡_};
 ghost use Prim.Native.Nat.{_+_, _-_, _<_, _≤_};
 ghost use lib.ListN.{length, getD};
@@ -7,19 +8,6 @@ ghost use Rattle.model.specs.Form.{holds};
 ghost use Rattle.search.specs.Searches.{OfSettings};
 ghost use Rattle.marking.specs.Marks as marks;
 ghost use Rattle.marking.specs.Uses as uses;
-
-// Whether a list names a setting. Every entry is compared: a loop without an exit is the faster one.
-fn names_setting(s: u16, settings: &[u16]) -> bool
-    ensures { λ r. ⌜ r ≡ holds s (now (settings .entry)) ⌝ }
-{
-    let mut found = false;
-    let mut j = 0;
-    while j < settings.len() {
-        found = found | (settings[j] == s);
-        j += 1;
-    }
-    found
-}
 
 // Whether the list of a place names a setting. Slots behind the list hold 0, so a setting other than 0 is looked for in all 32: a loop of known length is the faster one.
 fn names_at(s: u16, place: usize, counts: &[u16], settings: &[u16]) -> bool

@@ -1,5 +1,6 @@
 pub mod Answers
 pub mod Steps
+pub mod Named
 pub mod Split
 pub mod Model
 pub mod First

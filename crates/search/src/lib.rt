@@ -3,6 +3,7 @@ ghost use mathlib.Core.Path.{_≡_};
 ghost use Prim.Native.Nat.{_+_, _*_, _<_, _≤_};
 ghost use lib.ListN.{length, drop};
 ghost use Rattle.machine.specs.Settings.{lookup, entries};
+ghost use Rattle.model.specs.Form.{holds};
 ghost use Rattle.model.specs.History.{isTimestamp};
 ghost use Rattle.search.specs.Searches.{rankOf, stampedAt, positionOf, foundOf, writtenOf, previousWrite, waitingOf, PlacesWithin, WriteLists};
 
@@ -84,7 +85,20 @@ pub fn waiting(count: usize, order: &[u16], status: &[u16]) -> Found
     found
 }
 
-// The value that the writes of a place give a setting: its last entry counts.
+// Whether a list names a setting. Every entry is compared: a loop without an exit is the faster one.
+pub fn names_setting(s: u16, settings: &[u16]) -> bool
+    ensures { λ r. ⌜ r ≡ holds s (now (settings .entry)) ⌝ }
+{
+    let mut found = false;
+    let mut j = 0;
+    while j < settings.len() {
+        found = found | (settings[j] == s);
+        j += 1;
+    }
+    found
+}
+
+// The value that the writes of a place give a setting: its last entry counts. Most lists do not name the setting, and are passed by the faster loop.
 pub fn written_at(s: u16, place: usize, count: usize, targets: &[u16], written: &[i32]) -> Written
     requires { ⌜
         (place < 4096) × (count ≤ 32) × (32 * place + 32 ≤ length (now targets)) × (32 * place + 32 ≤ length (now written))
@@ -96,6 +110,9 @@ pub fn written_at(s: u16, place: usize, count: usize, targets: &[u16], written: 
         ⌝ }
 {
     let start = 32 * place;
+    if !names_setting(s, &targets[start..start + count]) {
+        return Written::Nothing;
+    }
     let mut j = count;
     while 0 < j {
         j -= 1;
@@ -124,15 +141,15 @@ pub fn previous_write(
         (previousWrite (now (order .entry)) (now (writes .entry)) (now (targets .entry)) (now (written .entry)) s position)
         ⌝ }
 {
-    let mut k = position;
-    while 0 < k {
-        k -= 1;
-        let place = order[k] as usize;
+    let mut below = position;
+    while 0 < below {
+        let place = order[below - 1] as usize;
         let size = writes[place] as usize;
         let found = written_at(s, place, size, targets, written);
         if let Written::Value(v) = found {
             return Written::Value(v);
         }
+        below -= 1;
     }
     Written::Nothing
 }

@@ -3,6 +3,7 @@
 pub mod packages;
 pub mod scripts;
 pub mod tables;
+pub mod write_lists;
 
 use outside::program::{op, Instruction, INSTRUCTION_BYTES, MAX_INSTRUCTIONS, REGISTERS, SETTINGS};
 
@@ -32,6 +33,13 @@ impl Random {
     /// One of these.
     pub fn pick<T: Copy>(&mut self, from: &[T]) -> T {
         from[self.below(from.len())]
+    }
+
+    /// Puts these in any order.
+    pub fn shuffle<T>(&mut self, items: &mut [T]) {
+        for index in 1..items.len() {
+            items.swap(index, self.below(index + 1));
+        }
     }
 }
 

@@ -1,9 +1,10 @@
-//! The proved code: the calls, by the crate `tolbezun`, and the interpreter, by the declarations of its
-//! static library here.
+//! The proved code: the calls, by the crate `tolbezun`, and the interpreter and the search for the
+//! previous writer, by the declarations of their static libraries here.
 //!
-//! Nothing checks these declarations against the library's source.
+//! Nothing checks these declarations against the libraries' sources.
 
 pub mod calls;
+pub mod searches;
 
 use outside::program::{Access, Fault, MAX_INSTRUCTIONS, SETTINGS};
 use std::fmt;

@@ -11,19 +11,19 @@ use Rattle.search.proofs.previous_write.Statement.{statement}
 use Rattle.search.proofs.previous_write.Tie as tie
 
 abbrev Inv-loop : tie.InvT-loop
-Inv-loop s position order writes targets written k₀ k =
-    (k ≤ position) × (previousWrite order writes targets written s k ≡ previousWrite order writes targets written s position)
+Inv-loop s position order writes targets written below₀ below =
+    (below ≤ position) × (previousWrite order writes targets written s below ≡ previousWrite order writes targets written s position)
 
 abbrev μ-loop : tie.MeasureT-loop
-μ-loop s position order writes targets written k₀ k = k
+μ-loop s position order writes targets written below₀ below = below
 
 -- the place of a turn
 abbrev placeOf : tie.In-loop Inv-loop μ-loop → ℕ
-placeOf c = getD (c .before .before .before .before .before .args .order .now) (c .before .loop .k - 1) 0
+placeOf c = getD (c .before .before .before .before .before .args .order .now) (c .before .loop .below - 1) 0
 
 -- it has a count
 within : (c : tie.In-loop Inv-loop μ-loop) → placeOf c < length (c .before .before .before .before .before .args .writes .now)
-within c = c .before .before .before .before .before .pre .0 .below (c .before .loop .k - 1) (omega arith)
+within c = c .before .before .before .before .before .pre .0 .below (c .before .loop .below - 1) (omega arith)
 
 written-at-requires : tie.Need-written-at-requires Inv-loop μ-loop
 written-at-requires c κs =
@@ -34,18 +34,18 @@ written-at-requires c κs =
 returns : tie.Need-returns Inv-loop μ-loop
 returns c =
     let l = c .before .before .before .before .before .before .before .loop in
-    let here = previous-here _ _ _ _ _ (l .k) (omega arith) (c .before .before .before .written-at .ensures) (c .before .found .given .1) in
+    let here = previous-here _ _ _ _ _ (l .below) (omega arith) (c .before .before .before .written-at .ensures) (c .before .found .given .1) in
     rw (toZ-ofZ (sfits-of (c .known-told .given .0 .1))) (ap writtenOf (here ∙ l .inv .1))
 
 loop-again : tie.Need-loop-again Inv-loop μ-loop
 loop-again c =
     let l = c .before .before .before .before .before .before .loop in
-    (omega arith, previous-lower _ _ _ _ _ (l .k) (omega arith) (c .before .before .written-at .ensures) (c .enum-told .given .1) ∙ l .inv .1)
+    (omega arith, previous-lower _ _ _ _ _ (l .below) (omega arith) (c .before .before .written-at .ensures) (c .enum-told .given .1) ∙ l .inv .1)
 
 returns-2 : tie.Need-returns-2 Inv-loop μ-loop
 unfolding previousWrite
 returns-2 c =
-    let e : c .before .loop .k ≡ 0 = omega arith in
+    let e : c .before .loop .below ≡ 0 = omega arith in
     ap writtenOf (rw e at (c .before .loop .inv .1))
 
 pub previous-write-spec : {M : Type 1} → statement M
@@ -58,13 +58,14 @@ previous-write-spec =
     (λ c. search needs)
     (λ c. search needs)
     (λ c. search needs)
-    (λ c. omega (arith, c .shared-slice-known4 .given (c .before .before .loop .k - 1)))
-    (λ c. omega (arith, c .shared-slice-known4 .given (c .before .before .loop .k - 1)))
+    (λ c. omega (arith, c .shared-slice-known4 .given (c .before .before .loop .below - 1)))
+    (λ c. omega (arith, c .shared-slice-known4 .given (c .before .before .loop .below - 1)))
     (λ c. within (c .before .before))
     (λ c. omega (arith, c .shared-slice-known5 .given (placeOf (c .before .before))))
     written-at-requires
     (λ c. search needs)
     returns
+    (λ c. search needs)
     (λ c. search needs)
     (λ c. search needs)
     loop-again

@@ -117,11 +117,7 @@ fn timestamps(random: &mut Random, count: usize) -> Vec<u64> {
     match random.below(4) {
         0 => {}
         1 => timestamps.reverse(),
-        _ => {
-            for index in 1..count {
-                timestamps.swap(index, random.below(index + 1));
-            }
-        }
+        _ => random.shuffle(&mut timestamps),
     }
     timestamps
 }

@@ -6,8 +6,9 @@
 //! cargo run --release --offline --bin bench -- calls
 //! ```
 //!
-//! The sections are `calls`, `turns`, `drains`, `form` and `programs`; `docs/PERFORMANCE.md` says
-//! what they show.
+//! The sections are `calls`, `searches`, `turns`, `drains`, `form` and `programs`;
+//! `docs/PERFORMANCE.md` says what they show. In `searches` the proved search for the previous writer
+//! is beside one in plain Rust that visits all changes.
 
 mod calls;
 mod drains;
@@ -16,6 +17,7 @@ mod history;
 mod measure;
 mod programs;
 mod rows;
+mod searches;
 mod tables;
 mod timing;
 mod turns;
@@ -28,8 +30,9 @@ use std::process::ExitCode;
 /// A section's name, and what prints it.
 type Section = (&'static str, fn(&mut Random));
 
-const SECTIONS: [Section; 5] = [
+const SECTIONS: [Section; 6] = [
     ("calls", calls::print),
+    ("searches", searches::print),
     ("turns", turns::print),
     ("drains", drains::print),
     ("form", form::print),
@@ -40,7 +43,7 @@ fn main() -> ExitCode {
     let names: Vec<String> = env::args().skip(1).collect();
     let known = |name: &String| SECTIONS.iter().any(|(section, _)| section == name);
     if !names.iter().all(known) {
-        eprintln!("usage: bench [calls] [turns] [drains] [form] [programs]");
+        eprintln!("usage: bench [calls] [searches] [turns] [drains] [form] [programs]");
         return ExitCode::FAILURE;
     }
     if cfg!(debug_assertions) {

@@ -1,4 +1,4 @@
--- `marking::names_setting` meets its contract: what has been passed and what is left tell whether the list names the setting. Assumes nothing.
+-- `search::names_setting` meets its contract: what has been passed and what is left tell whether the list names the setting. Assumes nothing.
 use mathlib.Core.Path.{_≡_, refl, _∙_}
 use mathlib.Core.Bool.{_||_}
 use Prim.Native.Nat.{_≤_, _-_}
@@ -6,9 +6,9 @@ use native.Mathlib.Omega.{arith}
 use borrow.Author.Needs.{needs}
 use lib.ListN.{length, drop}
 use Rattle.model.specs.Form.{holds}
-use Rattle.marking.proofs.Steps.{names-next, names-end}
-use Rattle.marking.proofs.names_setting.Statement.{statement}
-use Rattle.marking.proofs.names_setting.Tie as tie
+use Rattle.search.proofs.Named.{names-next, names-end}
+use Rattle.search.proofs.names_setting.Statement.{statement}
+use Rattle.search.proofs.names_setting.Tie as tie
 
 abbrev Inv-loop : tie.InvT-loop
 Inv-loop s settings found₀ j₀ found j = (j ≤ length settings) × ((found || holds s (drop j settings)) ≡ holds s settings)
