@@ -49,13 +49,17 @@ static const uint8_t take_200[] = TAKE(200);
 
 static void show(const char *when)
 {
-    uint64_t totals[4];
-    if (tolbezun_drain(TABLES, totals, 4) != 0) {
+    /* Four totals for each console, and what they sum to. */
+    uint16_t totals[1024] = {0};
+    unsigned sums[4] = {0};
+    if (tolbezun_drain(TABLES, totals, 1024) != 0) {
         printf("the drain was refused\n");
         return;
     }
-    printf("%s: %" PRIu64 " ran, %" PRIu64 " stood, %" PRIu64 " cleared, %" PRIu64 " faulted; ",
-           when, totals[0], totals[1], totals[2], totals[3]);
+    for (size_t place = 0; place < 1024; place++)
+        sums[place % 4] += totals[place];
+    printf("%s: %u ran, %u stood, %u cleared, %u faulted; ",
+           when, sums[0], sums[1], sums[2], sums[3]);
     printf("power left %" PRId64 ", alarm %" PRId64 "\n",
            tolbezun_current_value(TABLES, POWER_LEFT),
            tolbezun_current_value(TABLES, POWER_ALARM));

@@ -192,8 +192,9 @@ uint8_t tolbezun_turn(
 /*
  * Makes turns until one is idle.
  *
- * totals          4 entries, which get how many turns ran, stood, were cleared and faulted, unless the
- *                 answer is a refusal
+ * totals          1,024 entries, four for each console: from place console x 4 they get how many turns of
+ *                 its changes ran, stood, were cleared and faulted. The console of a change is the lowest
+ *                 8 bits of its timestamp. All are stored, zeros too, unless the answer is a refusal
  *
  * Alters what a turn alters, and totals. Answers 0 done or refusal 1 or 2.
  */
@@ -213,7 +214,7 @@ uint8_t tolbezun_drain(
     uint16_t *write_settings, size_t write_settings_len,
     int32_t *written_values, size_t written_values_len,
     int32_t *view, size_t view_len,
-    uint64_t *totals, size_t totals_len);
+    uint16_t *totals, size_t totals_len);
 
 /*
  * The current value of a setting, from the view.

@@ -1,4 +1,4 @@
--- Turn and drain with their lent slice: what the code stores in it, that a turn's number fits a byte, and a law for each return.
+-- A turn with its lent slice: what the code stores in it, that a turn's number fits a byte, and a law for each return.
 use mathlib.Core.Path.{_≡_, refl, sym, ap, subst}
 use mathlib.Core.Bool.{Bool, true, false, not}
 use mathlib.Core.List.{List, [], _∷_}
@@ -6,7 +6,6 @@ use Prim.Native.Nat.{ℕ, _<_, _≤_}
 use native.Mathlib.Omega.{arith}
 use borrow.Author.Tests.{eq-eqb, ne-eqb}
 use lib.ListN.{length, set, drop}
-use Rattle.model.specs.declared.Drained.{Drained}
 use Rattle.model.specs.declared.Turned.{Turned}
 use Rattle.model.specs.declared.Turned.the-variants as turn-answer
 use Rattle.model.specs.Cabinet.{Cabinet}
@@ -14,10 +13,10 @@ use Rattle.model.specs.Figure.{Step, idle, turned}
 use Rattle.model.specs.Form.{lengthsFit, inForm}
 use Rattle.model.specs.Refusals.{test, firstOf}
 use Rattle.model.specs.Tables.{Tables, decode}
-use Rattle.model.specs.Calls.{Given, refused, turnedGiven, drainedGiven, numberGiven, Reply, reply, unless, stepReply, roundOf, turn, drain}
+use Rattle.model.specs.Calls.{Given, refused, turnedGiven, Reply, reply, unless, stepReply, roundOf, turn}
 use Rattle.model.proofs.Answers.{by-event}
 use Rattle.answer_numbers.proofs.Numbers.{same-answer, of-call}
-use Rattle.answer_numbers.specs.Numbers.{turnedNumber, answering, Numbered, numbered, givenNumbers, sliceNumbers, turnNumbers, drainNumbers}
+use Rattle.answer_numbers.specs.Numbers.{turnedNumber, answering, Numbered, numbered, givenNumbers, sliceNumbers, turnNumbers}
 
 -- ---- the slice after the stores
 
@@ -28,11 +27,6 @@ one-stored (x ∷ slice) h a = refl
 pub two-stored : (slice : List ℕ) → 2 ≤ length slice → (a b : ℕ) → set (set slice 0 a) 1 b ≡ a ∷ b ∷ drop 2 slice
 two-stored [] h a b = absurd (omega arith)
 two-stored (x ∷ slice) h a b = ap (a ∷_) (one-stored slice (omega arith) b)
-
-pub four-stored : (slice : List ℕ) → 4 ≤ length slice → (a b c d : ℕ) → set (set (set (set slice 0 a) 1 b) 2 c) 3 d ≡ a ∷ b ∷ c ∷ d ∷ drop 4 slice
-four-stored [] h a b c d = absurd (omega arith)
-four-stored (x ∷ []) h a b c d = absurd (omega arith)
-four-stored (x ∷ y ∷ slice) h a b c d = ap (λ (rest : List ℕ). a ∷ b ∷ rest) (two-stored slice (omega arith) c d)
 
 -- ---- a turn's number fits a byte
 
@@ -73,11 +67,3 @@ module _ (n : ℕ) (T : Tables) (slice : List ℕ) where
   pub turn-done : length slice ≡ 2 → {a : Turned} {U : Tables} {after : Numbered ℕ} → after ≡ givenNumbers turnedNumber slice (turnedGiven a) → reply a U ≡ turn n T → reply after U ≡ turnNumbers n T slice
   unfolding turnNumbers
   turn-done = filled turnedGiven turnedNumber 2 slice T (turn n T)
-
-  pub drain-length : (length slice ≡ 4 → ⊥) → reply (numbered 1 slice) T ≡ drainNumbers n T slice
-  unfolding drainNumbers
-  drain-length = other-length drainedGiven numberGiven 4 slice T (drain n T)
-
-  pub drain-done : length slice ≡ 4 → {a : Drained} {U : Tables} {after : Numbered ℕ} → after ≡ givenNumbers numberGiven slice (drainedGiven a) → reply a U ≡ drain n T → reply after U ≡ drainNumbers n T slice
-  unfolding drainNumbers
-  drain-done = filled drainedGiven numberGiven 4 slice T (drain n T)

@@ -6,7 +6,7 @@ use lib.Dec.{eqb}
 use lib.IntN.{ℤ, pos, natAbs}
 use lib.ListN.{length, getD, drop}
 use Rattle.model.specs.Tables.{Tables}
-use Rattle.model.specs.Calls.{Given, refused, given, turnedGiven, drainedGiven, packedGiven, numberGiven, answerNumber, Reply, reply, PackageReply, PlainReply, PackedReply, turn, drain}
+use Rattle.model.specs.Calls.{Given, refused, given, turnedGiven, packedGiven, answerNumber, Reply, reply, PackageReply, TotalsReply, PlainReply, PackedReply, turn}
 
 -- the value, or 4,294,967,296 + the refusal
 abbrev pub valueNumber : Given → ℤ
@@ -50,11 +50,15 @@ packageNumbers r = reply (numbered (answerNumber (r .answer)) (r .answers)) (r .
 abbrev pub plainNumbers : PlainReply → Numbered ℤ
 plainNumbers r = numbered (answerNumber (r .answer)) (r .settings)
 
+-- a drain: the slice has the totals
+abbrev pub totalsNumbers : TotalsReply → Reply (Numbered ℕ)
+totalsNumbers r = reply (numbered (answerNumber (r .answer)) (r .totals)) (r .tables)
+
 -- package out: the slice has the bytes
 abbrev pub packedNumbers : PackedReply → Numbered ℕ
 packedNumbers r = numbered (packedNumber (packedGiven (r .answer))) (r .bytes)
 
--- ---- turn and drain: the slice has the values of the answer
+-- ---- turn: the slice has the values of the answer
 
 -- an answer's values, then the contents as they were; a refusal alters nothing
 abbrev pub putInto : List ℕ → Given → List ℕ
@@ -74,7 +78,3 @@ sliceNumbers gives number stated slice T called =
 -- two entries: the timestamp that the answer names and, where it is faulted, the place; idle names none
 unfoldable pub turnNumbers : ℕ → Tables → List ℕ → Reply (Numbered ℕ)
 turnNumbers n T slice = sliceNumbers turnedGiven turnedNumber 2 slice T (turn n T)
-
--- four entries: how many turns ran, stood, were cleared and faulted
-unfoldable pub drainNumbers : ℕ → Tables → List ℕ → Reply (Numbered ℕ)
-drainNumbers n T slice = sliceNumbers drainedGiven numberGiven 4 slice T (drain n T)

@@ -1,6 +1,5 @@
 // Answers as numbers: the answer bytes of a package, and what programs in other languages get.
 use model::Answer;
-use model::Drained;
 use model::Packed;
 use model::Standing;
 use model::Turned;
@@ -8,7 +7,7 @@ use model::Value;
 ghost use mathlib.Core.Path.{_≡_};
 ghost use Prim.Native.Nat.{_<_};
 ghost use lib.ListN.{length};
-ghost use Rattle.model.specs.Calls.{turnedGiven, drainedGiven, valueGiven, standingGiven, packedGiven, numberGiven, answerNumber};
+ghost use Rattle.model.specs.Calls.{turnedGiven, valueGiven, standingGiven, packedGiven, answerNumber};
 ghost use Rattle.answer_numbers.specs.Numbers.{valueNumber, standingNumber, packedNumber, turnedNumber, numbered, givenNumbers};
 
 // 0 done, 255 held already, else the refusal.
@@ -77,22 +76,5 @@ pub fn put_turned(answer: Turned, values: &mut [u64]) -> u8
             4
         }
         Turned::Refused(refusal) => 16 + refusal,
-    }
-}
-
-// 0 done, else the refusal; the slice gets how many turns ran, stood, were cleared and faulted.
-pub fn put_totals(answer: Drained, totals: &mut [u64]) -> u8
-    requires { ⌜ length (now totals) ≡ 4 ⌝ }
-    ensures { λ r. ⌜ numbered r (now (totals .exit)) ≡ givenNumbers numberGiven (now (totals .entry)) (drainedGiven answer) ⌝ }
-{
-    match answer {
-        Drained::Counted(counts) => {
-            totals[0] = counts.ran as u64;
-            totals[1] = counts.stood as u64;
-            totals[2] = counts.cleared as u64;
-            totals[3] = counts.faulted as u64;
-            0
-        }
-        Drained::Refused(refusal) => refusal,
     }
 }

@@ -1,12 +1,13 @@
 // The calls turn and drain.
 use drains::turn_all;
-use model::Drained;
+use model::Answer;
 use model::Turned;
 use tables::form::fault;
 use turns::turn_once;
+use zeros::clear_u16;
 ghost use mathlib.Core.Path.{_≡_};
 ghost use Rattle.model.specs.Tables.{tables, withTurn};
-ghost use Rattle.model.specs.Calls.{reply, turn, drain};
+ghost use Rattle.model.specs.Calls.{reply, turn, totalsReply, drainWithTotals};
 
 // One turn: the answer and the tables after one round of the Checker (Figure 1), with document 01's additions.
 pub fn turn(
@@ -75,7 +76,7 @@ pub fn turn(
     )
 }
 
-// Turns until idle, and how many ran, stood, were cleared and faulted.
+// Turns until idle, and for each console how many ran, stood, were cleared and faulted.
 pub fn drain(
     n: usize,
     held: &[u16],
@@ -92,9 +93,23 @@ pub fn drain(
     targets: &mut [u16],
     written: &mut [i32],
     view: &mut [i32],
-) -> Drained
-    ensures { λ r. ⌜ reply r (tables (now (held .entry)) (now (timestamps .entry)) (now (order .entry)) (now (status .exit)) (now (withdrawn .entry)) (now (lengths .entry)) (now (programs .entry)) (now (reads .exit)) (now (writes .exit)) (now (sources .exit)) (now (seen .exit)) (now (targets .exit)) (now (written .exit)) (now (view .exit))) ≡ drain n (tables (now (held .entry)) (now (timestamps .entry)) (now (order .entry)) (now (status .entry)) (now (withdrawn .entry)) (now (lengths .entry)) (now (programs .entry)) (now (reads .entry)) (now (writes .entry)) (now (sources .entry)) (now (seen .entry)) (now (targets .entry)) (now (written .entry)) (now (view .entry))) ⌝ }
+    totals: &mut [u16],
+) -> Answer
+    ensures { λ r. ⌜
+        (let T =
+        tables (now (held .entry)) (now (timestamps .entry)) (now (order .entry)) (now (status .entry)) (now (withdrawn .entry))
+        (now (lengths .entry)) (now (programs .entry)) (now (reads .entry)) (now (writes .entry)) (now (sources .entry))
+        (now (seen .entry)) (now (targets .entry)) (now (written .entry)) (now (view .entry)) in
+        totalsReply r
+        (withTurn T (now (status .exit)) (now (reads .exit)) (now (writes .exit)) (now (sources .exit)) (now (seen .exit))
+        (now (targets .exit)) (now (written .exit)) (now (view .exit)))
+        (now (totals .exit))
+        ≡ drainWithTotals n T (now (totals .entry)))
+        ⌝ }
 {
+    if totals.len() != 1024 {
+        return Answer::Refused(1);
+    }
     let refusal = fault(
         n,
         held,
@@ -113,9 +128,10 @@ pub fn drain(
         view,
     );
     if refusal != 0 {
-        return Drained::Refused(refusal);
+        return Answer::Refused(refusal);
     }
-    let totals = turn_all(
+    clear_u16(totals);
+    turn_all(
         held,
         timestamps,
         order,
@@ -130,6 +146,7 @@ pub fn drain(
         targets,
         written,
         view,
+        totals,
     );
-    Drained::Counted(totals)
+    Answer::Done
 }

@@ -7,9 +7,9 @@ use Prim.Native.Nat.{ℕ, _+_, _<_, _≤_}
 use native.Mathlib.Omega.{arith}
 use lib.IntN.{ℤ}
 use lib.ListN.{length, getD, replicate}
-use Rattle.model.specs.declared.Totals.{Totals}
 use Rattle.model.specs.declared.Turned.{Turned}
 use Rattle.model.specs.History.{start, allSettings}
+use Rattle.model.specs.Drain.{totalCount}
 use Rattle.model.specs.Tables.{Tables, heldCount}
 use Rattle.model.specs.Form.{Formed}
 use Rattle.model.specs.Calls.{reply}
@@ -24,18 +24,19 @@ use Rattle.marking.specs.Uses.{Numbers, LastUses}
 use Rattle.marking.proofs.LastUses.{numbers-new}
 use Rattle.marking.proofs.Model.{walkable-form, uses-first, uses-passed}
 use Rattle.turns.specs.Turns.{Going}
-use Rattle.drains.specs.Drained.{countedIn, drained, Passed}
+use Rattle.totals.specs.Counted.{countedIn}
+use Rattle.drains.specs.Drained.{drained, Passed}
 use Rattle.drains.proofs.Drains.{Draining, drain-begins, drain-passed, drain-ends-here}
 
--- n counts the turns so far, which have gone up to position k
-pub record Passing (T₀ T : Tables) (n : Totals) (k : ℕ) (known : List ℕ) (before after : List ℤ) (readers writers settled : List ℕ) : Type 0 where
+-- `counted` has the totals of the turns so far, which have gone up to position k
+pub record Passing (T₀ T : Tables) (counted : List ℕ) (k : ℕ) (known : List ℕ) (before after : List ℤ) (readers writers settled : List ℕ) : Type 0 where
   pub within : k ≤ heldCount T
-  pub drains : Draining T₀ T n
+  pub drains : Draining T₀ T counted
   pub going : Going k T known before after readers writers settled
 
 -- no change waits
-pub pass-none : {T : Tables} → Formed (length (T .order)) T → waitingIn T ≡ none → reply (record { ran = 0; stood = 0; cleared = 0; faulted = 0 }) T ≡ drained T
-pass-none {T} g w = drain-ends-here T g (drain-begins T g) w
+pub pass-none : {T : Tables} {counted : List ℕ} → Formed (length (T .order)) T → counted ≡ replicate totalCount 0 → waitingIn T ≡ none → reply counted T ≡ drained T
+pass-none {T} g z w = drain-ends-here T g (drain-begins T g z) w
 
 -- the first change that waits
 module _ {T : Tables} {first : ℕ} (g : Formed (length (T .order)) T) (w : waitingIn T ≡ some first) where
@@ -60,16 +61,17 @@ module _ {T : Tables} {first : ℕ} (g : Formed (length (T .order)) T) (w : wait
 
   -- before its turn
   pub pass-begins :
-      {before after before' after' : List ℤ} {readers writers : List ℕ} →
+      {counted : List ℕ} {before after before' after' : List ℤ} {readers writers : List ℕ} →
+      counted ≡ replicate totalCount 0 →
       before ≡ allSettings start →
       after ≡ allSettings start →
       CarriedBelow first (T .order) (T .writes) (T .targets) (T .written) before after before' after' →
       LastUses first (heldCount T) (columnsOf T) (T .status) readers writers →
-      Passing T T (record { ran = 0; stood = 0; cleared = 0; faulted = 0 }) first (replicate 1024 1) before' after' readers writers (replicate 1024 0)
-  pass-begins b a c u =
+      Passing T T counted first (replicate 1024 1) before' after' readers writers (replicate 1024 0)
+  pass-begins z b a c u =
       record {
         within = omega (arith, within);
-        drains = drain-begins T g;
+        drains = drain-begins T g z;
         going =
             record {
               formed = g;
@@ -81,19 +83,19 @@ module _ {T : Tables} {first : ℕ} (g : Formed (length (T .order)) T) (w : wait
 
 -- one change further
 pub pass-next :
-    {T₀ T U : Tables} {n n' : Totals} {k : ℕ} {known : List ℕ} {before after : List ℤ} {readers writers settled : List ℕ} {known' : List ℕ} {before' after' : List ℤ} {readers' writers' settled' : List ℕ} {a : Turned} →
-    Passing T₀ T n k known before after readers writers settled →
+    {T₀ T U : Tables} {counted counted' : List ℕ} {k : ℕ} {known : List ℕ} {before after : List ℤ} {readers writers settled : List ℕ} {known' : List ℕ} {before' after' : List ℤ} {readers' writers' settled' : List ℕ} {a : Turned} →
+    Passing T₀ T counted k known before after readers writers settled →
     k < heldCount U →
     Passed a T U × Going (k + 1) U known' before' after' readers' writers' settled' →
-    n' ≡ countedIn a n →
-    Passing T₀ U n' (k + 1) known' before' after' readers' writers' settled'
+    counted' ≡ countedIn a counted →
+    Passing T₀ U counted' (k + 1) known' before' after' readers' writers' settled'
 pass-next p h s c = record { within = omega arith; drains = drain-passed _ (p .drains .formed) (p .drains) (s .0) c; going = s .1 }
 
 -- past the last change
 pub pass-ends :
-    {T₀ T : Tables} {n : Totals} {k : ℕ} {known : List ℕ} {before after : List ℤ} {readers writers settled : List ℕ} →
+    {T₀ T : Tables} {counted : List ℕ} {k : ℕ} {known : List ℕ} {before after : List ℤ} {readers writers settled : List ℕ} →
     heldCount T ≤ k →
-    Passing T₀ T n k known before after readers writers settled →
-    reply n T ≡ drained T₀
+    Passing T₀ T counted k known before after readers writers settled →
+    reply counted T ≡ drained T₀
 pass-ends {T = T} l p =
     drain-ends-here _ (p .drains .formed) (p .drains) (none-first (isWaiting (T .order) (T .status)) (heldCount T) (λ j h. p .going .passed j (omega arith)))

@@ -1,23 +1,24 @@
 // A drain on tables in form: one pass up the order list, in which each change is passed over or has its turn.
 use fresh::fill_start;
 use marking::last_uses;
-use model::Totals;
 use model::Turned;
 use search::Found;
 use search::waiting;
+use totals::count_turn;
 use turns::turn_at;
 use values::carry_below;
 use values::carry_place;
 ghost use mathlib.Core.Path.{_≡_};
 ghost use mathlib.Core.Option.{some};
-ghost use Prim.Native.Nat.{_+_, _<_, _≤_};
-ghost use lib.ListN.{length};
+ghost use Prim.Native.Nat.{_+_, _<_};
+ghost use lib.ListN.{length, replicate};
+ghost use Rattle.model.specs.Drain.{totalCount};
 ghost use Rattle.model.specs.Tables.{tables, heldCount, withTurn};
 ghost use Rattle.model.specs.Calls.{reply};
 ghost use Rattle.model.specs.Form.{Formed};
 ghost use Rattle.search.specs.Searches.{waitingIn};
 ghost use Rattle.turns.specs.Turns.{Going};
-ghost use Rattle.drains.specs.Drained.{countedIn, drained, Passed};
+ghost use Rattle.drains.specs.Drained.{drained, Passed};
 
 // A drain's step: the change at position k is passed over where it is Valid, and has its turn where it is not.
 fn pass_at(
@@ -93,47 +94,8 @@ fn pass_at(
     )
 }
 
-// The totals with one more turn.
-fn counted(totals: Totals, answer: Turned) -> Totals
-    requires { ⌜ (totals .ran ≤ 4096) × (totals .stood ≤ 4096) × (totals .cleared ≤ 4096) × (totals .faulted ≤ 4096) ⌝ }
-    ensures { λ r. ⌜ r ≡ countedIn answer totals ⌝ }
-{
-    let ran = totals.ran;
-    let stood = totals.stood;
-    let cleared = totals.cleared;
-    let faulted = totals.faulted;
-    match answer {
-        Turned::Idle => totals,
-        Turned::Ran(_) => Totals {
-            ran: ran + 1,
-            stood: stood,
-            cleared: cleared,
-            faulted: faulted,
-        },
-        Turned::Stood(_) => Totals {
-            ran: ran,
-            stood: stood + 1,
-            cleared: cleared,
-            faulted: faulted,
-        },
-        Turned::Cleared(_) => Totals {
-            ran: ran,
-            stood: stood,
-            cleared: cleared + 1,
-            faulted: faulted,
-        },
-        Turned::Faulted(_, _) => Totals {
-            ran: ran,
-            stood: stood,
-            cleared: cleared,
-            faulted: faulted + 1,
-        },
-        Turned::Refused(_) => totals,
-    }
-}
-
-// The turns of a drain from its first on, which is that of the change at a position, and how many ran, stood, were cleared and faulted. All values are known from the start, and how far
-// each setting matters is noted once.
+// The turns of a drain from its first on, which is that of the change at a position, each counted in totals that are 0 before. All values are known from the start, and how far each
+// setting matters is noted once.
 fn turn_from(
     first: usize,
     held: &[u16],
@@ -150,19 +112,20 @@ fn turn_from(
     targets: &mut [u16],
     written: &mut [i32],
     view: &mut [i32],
-) -> Totals
+    totals: &mut [u16],
+)
     requires { ⌜
         (let T =
         tables (now held) (now timestamps) (now order) (now status) (now withdrawn) (now lengths) (now programs) (now reads)
         (now writes) (now sources) (now seen) (now targets) (now written) (now view) in
-        Formed (length (T .order)) T × (waitingIn T ≡ some first))
+        Formed (length (T .order)) T × (waitingIn T ≡ some first) × (now totals ≡ replicate totalCount 0))
         ⌝ }
-    ensures { λ r. ⌜
+    ensures { λ _. ⌜
         (let T =
         tables (now (held .entry)) (now (timestamps .entry)) (now (order .entry)) (now (status .entry)) (now (withdrawn .entry))
         (now (lengths .entry)) (now (programs .entry)) (now (reads .entry)) (now (writes .entry)) (now (sources .entry))
         (now (seen .entry)) (now (targets .entry)) (now (written .entry)) (now (view .entry)) in
-        reply r
+        reply (now (totals .exit))
         (withTurn T (now (status .exit)) (now (reads .exit)) (now (writes .exit)) (now (sources .exit)) (now (seen .exit))
         (now (targets .exit)) (now (written .exit)) (now (view .exit)))
         ≡ drained T)
@@ -198,12 +161,6 @@ fn turn_from(
         &mut readers,
         &mut writers,
     );
-    let mut totals = Totals {
-        ran: 0,
-        stood: 0,
-        cleared: 0,
-        faulted: 0,
-    };
     let mut k = first;
     while k < count {
         let answer = pass_at(
@@ -229,13 +186,12 @@ fn turn_from(
             &mut writers,
             &mut settled,
         );
-        totals = counted(totals, answer);
+        count_turn(answer, totals);
         k += 1;
     }
-    totals
 }
 
-// A drain, and how many of its turns ran, stood, were cleared and faulted; none, where no change waits.
+// A drain, its turns counted in totals that are 0 before; none, where no change waits.
 pub fn turn_all(
     held: &[u16],
     timestamps: &[u64],
@@ -251,16 +207,20 @@ pub fn turn_all(
     targets: &mut [u16],
     written: &mut [i32],
     view: &mut [i32],
-) -> Totals
-    requires { ⌜ Formed (length (now order))
+    totals: &mut [u16],
+)
+    requires { ⌜
+        Formed (length (now order))
         (tables (now held) (now timestamps) (now order) (now status) (now withdrawn) (now lengths) (now programs) (now reads)
-        (now writes) (now sources) (now seen) (now targets) (now written) (now view)) ⌝ }
-    ensures { λ r. ⌜
+        (now writes) (now sources) (now seen) (now targets) (now written) (now view))
+        × (now totals ≡ replicate totalCount 0)
+        ⌝ }
+    ensures { λ _. ⌜
         (let T =
         tables (now (held .entry)) (now (timestamps .entry)) (now (order .entry)) (now (status .entry)) (now (withdrawn .entry))
         (now (lengths .entry)) (now (programs .entry)) (now (reads .entry)) (now (writes .entry)) (now (sources .entry))
         (now (seen .entry)) (now (targets .entry)) (now (written .entry)) (now (view .entry)) in
-        reply r
+        reply (now (totals .exit))
         (withTurn T (now (status .exit)) (now (reads .exit)) (now (writes .exit)) (now (sources .exit)) (now (seen .exit))
         (now (targets .exit)) (now (written .exit)) (now (view .exit)))
         ≡ drained T)
@@ -284,12 +244,8 @@ pub fn turn_all(
             targets,
             written,
             view,
+            totals,
         ),
-        Found::Nothing => Totals {
-            ran: 0,
-            stood: 0,
-            cleared: 0,
-            faulted: 0,
-        },
+        Found::Nothing => {}
     }
 }

@@ -1,12 +1,12 @@
-// Turn and drain for programs in other languages, as a static library. Each answer is one number, and its values stand in a lent slice.
-use answer_numbers::put_totals;
+// Turn and drain for programs in other languages, as a static library. Each answer is one number, and what it tells besides stands in a lent slice.
+use answer_numbers::answer_number;
 use answer_numbers::put_turned;
 use checker::drain;
 use checker::turn;
 ghost use mathlib.Core.Path.{_≡_};
 ghost use Rattle.model.specs.Tables.{tables, withTurn};
-ghost use Rattle.model.specs.Calls.{reply};
-ghost use Rattle.answer_numbers.specs.Numbers.{numbered, turnNumbers, drainNumbers};
+ghost use Rattle.model.specs.Calls.{reply, drainWithTotals};
+ghost use Rattle.answer_numbers.specs.Numbers.{numbered, totalsNumbers, turnNumbers};
 
 // One turn: the number of its answer. `values` has two entries, which get the timestamp of the change whose turn it was and the place where it faulted.
 #[no_mangle]
@@ -62,7 +62,7 @@ pub extern "C" fn tolbezun_turn(
     put_turned(answer, values)
 }
 
-// A drain: the number of its answer. `totals` has four entries, which get how many turns ran, stood, were cleared and faulted.
+// A drain: 0 done, else the refusal. `totals` has 1,024 entries, four for each console: how many turns of its changes ran, stood, were cleared and faulted.
 #[no_mangle]
 pub extern "C" fn tolbezun_drain(
     n: usize,
@@ -80,7 +80,7 @@ pub extern "C" fn tolbezun_drain(
     targets: &mut [u16],
     written: &mut [i32],
     view: &mut [i32],
-    totals: &mut [u64],
+    totals: &mut [u16],
 ) -> u8
     ensures { λ r. ⌜
         (let T =
@@ -90,13 +90,10 @@ pub extern "C" fn tolbezun_drain(
         reply (numbered r (now (totals .exit)))
         (withTurn T (now (status .exit)) (now (reads .exit)) (now (writes .exit)) (now (sources .exit)) (now (seen .exit))
         (now (targets .exit)) (now (written .exit)) (now (view .exit)))
-        ≡ drainNumbers n T (now (totals .entry)))
+        ≡ totalsNumbers (drainWithTotals n T (now (totals .entry))))
         ⌝ }
 {
-    if totals.len() != 4 {
-        return 1;
-    }
-    let answer = drain(
+    answer_number(drain(
         n,
         held,
         timestamps,
@@ -112,6 +109,6 @@ pub extern "C" fn tolbezun_drain(
         targets,
         written,
         view,
-    );
-    put_totals(answer, totals)
+        totals,
+    ))
 }

@@ -1,4 +1,5 @@
 pub mod Tabulate
+pub mod Totals
 pub mod Values
 pub mod Start
 pub mod Answers

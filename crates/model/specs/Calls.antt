@@ -13,8 +13,6 @@ use Rattle.model.specs.declared.Answer.{Answer}
 use Rattle.model.specs.declared.Answer.the-variants as answer
 use Rattle.model.specs.declared.Turned.{Turned}
 use Rattle.model.specs.declared.Turned.the-variants as turn-answer
-use Rattle.model.specs.declared.Drained.{Drained}
-use Rattle.model.specs.declared.Drained.the-variants as drain-answer
 use Rattle.model.specs.declared.Value.{Value}
 use Rattle.model.specs.declared.Value.the-variants as value-answer
 use Rattle.model.specs.declared.Standing.{Standing}
@@ -23,7 +21,7 @@ use Rattle.model.specs.declared.Packed.{Packed}
 use Rattle.model.specs.declared.Packed.the-variants as packed-answer
 use Rattle.model.specs.History.{start, Change, status, withdrawn, asOf, allSettings}
 use Rattle.model.specs.Figure.{Event, ran, stood, cleared, Step, idle, turned, round}
-use Rattle.model.specs.Drain.{Drain, drainHistory, totals}
+use Rattle.model.specs.Drain.{Drain, drainHistory, totalCount, totals}
 use Rattle.model.specs.Cabinet.{Cabinet, emptyCabinet, historyOf, withHistory, find, add, remove}
 use Rattle.model.specs.Tables.{Tables, statusNumber, flagNumber, encode, decode}
 use Rattle.model.specs.Refusals.{test, firstOf, wrongLengths, wrongLength, notInForm, faultOf, noTimestamp, noTime, noSetting, wrongProgramLength, malformed, isHeld, heldOtherwise, full, notHeld, withdrawnAlready, noRoom}
@@ -51,11 +49,6 @@ turnedGiven (turn-answer.Stood t) = given 2 (pos t ∷ [])
 turnedGiven (turn-answer.Cleared t) = given 3 (pos t ∷ [])
 turnedGiven (turn-answer.Faulted t place) = given 4 (pos t ∷ pos place ∷ [])
 turnedGiven (turn-answer.Refused r) = refused r
-
--- how many ran, stood, were cleared and faulted
-abbrev pub drainedGiven : Drained → Given
-drainedGiven (drain-answer.Counted n) = given 0 (pos (n .ran) ∷ pos (n .stood) ∷ pos (n .cleared) ∷ pos (n .faulted) ∷ [])
-drainedGiven (drain-answer.Refused r) = refused r
 
 -- a value
 abbrev pub valueGiven : Value → Given
@@ -208,12 +201,29 @@ turn n T =
 abbrev pub drainOf : Cabinet → Drain
 drainOf c = drainHistory start (historyOf c) (c .view)
 
-unfoldable pub drain : ℕ → Tables → Reply Drained
+-- turns until idle, whatever is lent for the totals
+unfoldable pub drain : ℕ → Tables → Reply Answer
 drain n T =
     let c = decode T in
     let d = drainOf c in
-    unless (faultOf n T) drain-answer.Refused T
-    (record { answer = drain-answer.Counted (totals (d .events)); tables = encode n (withHistory c (d .history) (d .view)) })
+    unless (faultOf n T) answer.Refused T
+    (record { answer = answer.Done; tables = encode n (withHistory c (d .history) (d .view)) })
+
+-- the call's reply also has the lent slice of 1,024 totals
+pub record TotalsReply : Type 0 where
+  pub answer : Answer
+  pub tables : Tables
+  pub totals : List ℕ
+
+abbrev pub totalsReply : Answer → Tables → List ℕ → TotalsReply
+totalsReply a T totals = record { answer = a; tables = T; totals = totals }
+
+-- document 02, R-5: "A drain fills a lent slice of 1,024 16-bit totals": each is stored, 0 too. Another length is refusal 1
+unfoldable pub drainWithTotals : ℕ → Tables → List ℕ → TotalsReply
+drainWithTotals n T lent =
+    let r = firstOf (wrongLength n T (length lent) totalCount ∷ notInForm n T ∷ []) in
+    cond (eqb r 0) (record { answer = answer.Done; tables = drain n T .tables; totals = totals (drainOf (decode T) .events) })
+    (record { answer = answer.Refused r; tables = T; totals = lent })
 
 -- ---- the calls that only read
 

@@ -1,11 +1,12 @@
--- Document 01's cases P1 to P11 and its package ("Cases to know"), with the start values of document 02 (R-1), carried out by the definitions of the calls; and what package out writes then (R-3). The table is proved by computation.
+-- Document 01's cases P1 to P11 and its package ("Cases to know"), with the start values of document 02 (R-1), carried out by the definitions of the calls; what package out writes then (R-3); and totals of two consoles (R-5). The table is proved by computation.
 use mathlib.Core.Path.{_≡_, refl}
-use mathlib.Core.Bool.{Bool, true, false, _&&_}
+use mathlib.Core.Bool.{Bool, true, false, cond, _&&_}
 use mathlib.Core.List.{List, [], _∷_, _++_, map}
-use Prim.Native.Nat.{ℕ, _*_, _/_, _%_}
+use Prim.Native.Nat.{ℕ, suc, _*_, _/_, _%_}
 use lib.Count.{onesIn}
+use lib.Dec.{eqb}
 use lib.IntN.{ℤ, pos, negsuc}
-use lib.ListN.{length, replicate}
+use lib.ListN.{replicate}
 use Rattle.words.specs.Words.{patternOf, numberOf, wrap, floorDiv, onesOf}
 use Rattle.start_values.specs.StartValues.{startTable}
 use Rattle.machine.specs.Settings.{settingCount, named, entries, lookup}
@@ -14,10 +15,9 @@ use Rattle.machine.specs.Form.{isWellFormed, allBelow, lengthFits, wellFormed}
 use Rattle.machine.specs.Run.{effect, shiftRight, enter, load, store, perform, step, runFrom, runProgram, run}
 use Rattle.machine.specs.Examples.{instruction, constant, reading, writing}
 use Rattle.model.specs.declared.Answer.{Answer}
+use Rattle.model.specs.declared.Answer.the-variants.{Done}
 use Rattle.model.specs.declared.Turned.{Turned}
 use Rattle.model.specs.declared.Turned.the-variants.{Ran, Stood, Cleared, Faulted}
-use Rattle.model.specs.declared.Drained.{Drained}
-use Rattle.model.specs.declared.Drained.the-variants.{Counted}
 use Rattle.model.specs.declared.Value.{Value}
 use Rattle.model.specs.declared.Value.the-variants.{Is}
 use Rattle.model.specs.declared.Standing.{Standing}
@@ -25,12 +25,12 @@ use Rattle.model.specs.declared.Standing.the-variants.{At}
 use Rattle.model.specs.declared.Packed.the-variants as packed-answer
 use Rattle.model.specs.History.{start, runLists}
 use Rattle.model.specs.Figure.{round}
-use Rattle.model.specs.Drain.{drainFor, drainHistory}
+use Rattle.model.specs.Drain.{drainFor, drainHistory, totalCount, totals}
 use Rattle.model.specs.Tables.{Tables, pad, encode, decode}
 use Rattle.model.specs.Form.{lengthsFit, inForm}
 use Rattle.model.specs.Refusals.{sameBytes}
 use Rattle.model.specs.Package.{numberAt, countBefore, layoutFits, itemsOf, packageOf}
-use Rattle.model.specs.Calls.{Reply, setUp, itemAnswer, ifDone, takeIn, withdraw, takeInPackage, turn, drain, currentValue, valueAsOf, standing, PackedReply, packedReply, packageOut}
+use Rattle.model.specs.Calls.{Reply, setUp, itemAnswer, ifDone, takeIn, withdraw, takeInPackage, turn, drain, TotalsReply, drainWithTotals, currentValue, valueAsOf, standing, PackedReply, packedReply, packageOut}
 use Rattle.model.specs.Log.{drainTurns}
 
 -- ---- programs
@@ -63,6 +63,11 @@ alarms s = instruction 15 0 2 0 (pos 1) ∷ instruction 0 0 0 0 (pos 0) ∷ sets
 
 -- ---- the table
 
+-- what a drain answers, and the totals other than 0 that it leaves, each with its place
+record Drained : Type 0 where
+  answer : Answer
+  placed : List (ℕ × ℕ)
+
 -- a step of a script: every taking in and withdrawal is to be answered done; the entries of a package, a turn and a drain are to be answered as listed behind them
 data Action : Type 0 where
   takesIn : ℕ → Program → Action
@@ -85,13 +90,13 @@ record Case : Type 0 where
   answer : Drained
   facts : List Fact
 
--- so many ran, stood, were cleared and faulted
-abbrev counted : ℕ → ℕ → ℕ → ℕ → Drained
-counted n m k f = Counted (record { ran = n; stood = m; cleared = k; faulted = f })
+-- done, with these totals and else zeros
+abbrev counted : List (ℕ × ℕ) → Drained
+counted placed = record { answer = Done; placed = placed }
 
--- a drain with its turns, all of which ran
+-- a drain with its turns, all of which ran, of changes stamped below 256
 abbrev drainsRunning : List ℕ → Action
-drainsRunning timestamps = drains (map Ran timestamps) (counted (length timestamps) 0 0 0)
+drainsRunning timestamps = drains (map Ran timestamps) (counted (map (λ t. (4 * t, 1)) timestamps))
 
 -- an entry of a package's contents, stamped below 256
 abbrev listed : ℕ → ℕ → ℕ → List ℕ
@@ -99,7 +104,7 @@ listed t kind count = t ∷ (replicate 7 0 ++ (kind ∷ count ∷ 0 ∷ 0 ∷ []
 
 -- nothing held: no turns
 P1 : Case
-P1 = record { script = []; turned = []; answer = counted 0 0 0 0; facts = [] }
+P1 = record { script = []; turned = []; answer = counted []; facts = [] }
 
 -- 20 sets 34 to 5, drained; 10 sets 34 to 7: 10 ran; view 5, as of 15 it is 7
 P2 : Case
@@ -107,7 +112,7 @@ P2 =
     record {
       script = takesIn 20 (sets 34 (pos 5)) ∷ drainsRunning (20 ∷ []) ∷ takesIn 10 (sets 34 (pos 7)) ∷ [];
       turned = Ran 10 ∷ [];
-      answer = counted 1 0 0 0;
+      answer = counted ((40, 1) ∷ []);
       facts = current 34 (Is (pos 5)) ∷ asOf 15 34 (Is (pos 7)) ∷ [];
     }
 
@@ -117,7 +122,7 @@ P3 =
     record {
       script = takesIn 20 (copies 34 50) ∷ drainsRunning (20 ∷ []) ∷ takesIn 10 (sets 34 (pos 7)) ∷ [];
       turned = Ran 10 ∷ Ran 20 ∷ [];
-      answer = counted 2 0 0 0;
+      answer = counted ((40, 1) ∷ (80, 1) ∷ []);
       facts = current 50 (Is (pos 7)) ∷ [];
     }
 
@@ -127,7 +132,7 @@ P4 =
     record {
       script = takesIn 20 (copies 34 50) ∷ drainsRunning (20 ∷ []) ∷ takesIn 10 (sets 34 (pos 1)) ∷ [];
       turned = Ran 10 ∷ [];
-      answer = counted 1 0 0 0;
+      answer = counted ((40, 1) ∷ []);
       facts = current 50 (Is (pos 1)) ∷ [];
     }
 
@@ -137,7 +142,7 @@ P5 =
     record {
       script = takesIn 20 (sets 34 (pos 5)) ∷ takesIn 30 (copies 34 50) ∷ drainsRunning (20 ∷ 30 ∷ []) ∷ takesIn 10 (sets 34 (pos 7)) ∷ [];
       turned = Ran 10 ∷ [];
-      answer = counted 1 0 0 0;
+      answer = counted ((40, 1) ∷ []);
       facts = current 34 (Is (pos 5)) ∷ current 50 (Is (pos 5)) ∷ [];
     }
 
@@ -147,7 +152,7 @@ P6 =
     record {
       script = takesIn 20 (adds 34 (pos 1)) ∷ drainsRunning (20 ∷ []) ∷ takesIn 10 (sets 34 (pos 7)) ∷ [];
       turned = Ran 10 ∷ Ran 20 ∷ [];
-      answer = counted 2 0 0 0;
+      answer = counted ((40, 1) ∷ (80, 1) ∷ []);
       facts = current 34 (Is (pos 8)) ∷ [];
     }
 
@@ -158,7 +163,7 @@ P7 =
       script =
           takesIn 30 (copies 34 50) ∷ drainsRunning (30 ∷ []) ∷ takesIn 10 (sets 34 (pos 7)) ∷ turns (Ran 10) ∷ takesIn 20 (sets 34 (pos 1)) ∷ [];
       turned = Ran 20 ∷ Stood 30 ∷ [];
-      answer = counted 1 1 0 0;
+      answer = counted ((80, 1) ∷ (121, 1) ∷ []);
       facts = current 50 (Is (pos 1)) ∷ stands 30 (At 1 0) ∷ [];
     }
 
@@ -168,7 +173,7 @@ P8 =
     record {
       script = takesIn 10 (sets 34 (pos 7) ++ sets 40 (pos 3)) ∷ drainsRunning (10 ∷ []) ∷ withdraws 10 ∷ [];
       turned = Cleared 10 ∷ [];
-      answer = counted 0 0 1 0;
+      answer = counted ((42, 1) ∷ []);
       facts =
           current 34 (Is (pos 1))
           ∷ current 40 (Is (pos 0))
@@ -183,7 +188,7 @@ P9 =
     record {
       script = takesIn 10 (sets 34 (pos 7) ++ sets 34 (pos 5)) ∷ [];
       turned = Faulted 10 3 ∷ [];
-      answer = counted 0 0 0 1;
+      answer = counted ((43, 1) ∷ []);
       facts = current 34 (Is (pos 1)) ∷ asOf 20 34 (Is (pos 1)) ∷ [];
     }
 
@@ -198,7 +203,7 @@ P10 =
           ∷ takesIn 40 (constant 0 (negsuc 0) ∷ instruction 7 1 0 0 (pos 0) ∷ writing 37 1 ∷ [])
           ∷ [];
       turned = Ran 10 ∷ Ran 20 ∷ Ran 30 ∷ Ran 40 ∷ [];
-      answer = counted 4 0 0 0;
+      answer = counted ((40, 1) ∷ (80, 1) ∷ (120, 1) ∷ (160, 1) ∷ []);
       facts =
           current 34 (Is (negsuc 2147483647))
           ∷ current 35 (Is (negsuc 2147483647))
@@ -213,7 +218,7 @@ P11-before =
     record {
       script = takesIn 10 (sets 36 (pos 400)) ∷ takesIn 30 (subtracts 36 (pos 300) ++ alarms 37) ∷ [];
       turned = Ran 10 ∷ Ran 30 ∷ [];
-      answer = counted 2 0 0 0;
+      answer = counted ((40, 1) ∷ (120, 1) ∷ []);
       facts = current 36 (Is (pos 100)) ∷ current 37 (Is (pos 0)) ∷ [];
     }
 
@@ -228,7 +233,7 @@ P11-after =
           ∷ takesIn 20 (subtracts 36 (pos 200))
           ∷ [];
       turned = Ran 20 ∷ Ran 30 ∷ [];
-      answer = counted 2 0 0 0;
+      answer = counted ((80, 1) ∷ (120, 1) ∷ []);
       facts = current 36 (Is (negsuc 99)) ∷ current 37 (Is (pos 1)) ∷ [];
     }
 
@@ -240,7 +245,7 @@ sample-package =
           takesInPackage (3 ∷ 0 ∷ (listed 20 0 2 ++ listed 10 0 2 ++ listed 15 1 0 ++ bytesOf (copies 34 50 ++ sets 34 (pos 7)))) (0 ∷ 0 ∷ 10 ∷ [])
           ∷ [];
       turned = Ran 10 ∷ Ran 20 ∷ [];
-      answer = counted 2 0 0 0;
+      answer = counted ((40, 1) ∷ (80, 1) ∷ []);
       facts =
           current 34 (Is (pos 7))
           ∷ current 50 (Is (pos 7))
@@ -249,8 +254,18 @@ sample-package =
           ∷ [];
     }
 
+-- document 02, R-5: 10 and 266 are of console 10, whose lowest 8 bits they share, and 255 is of console 255: both ran their changes
+two-consoles : Case
+two-consoles =
+    record {
+      script = takesIn 266 (sets 34 (pos 7)) ∷ takesIn 255 (sets 35 (pos 5)) ∷ takesIn 10 (sets 36 (pos 3)) ∷ [];
+      turned = Ran 10 ∷ Ran 255 ∷ Ran 266 ∷ [];
+      answer = counted ((40, 2) ∷ (1020, 1) ∷ []);
+      facts = [];
+    }
+
 cases : List Case
-cases = P1 ∷ P2 ∷ P3 ∷ P4 ∷ P5 ∷ P6 ∷ P7 ∷ P8 ∷ P9 ∷ P10 ∷ P11-before ∷ P11-after ∷ sample-package ∷ []
+cases = P1 ∷ P2 ∷ P3 ∷ P4 ∷ P5 ∷ P6 ∷ P7 ∷ P8 ∷ P9 ∷ P10 ∷ P11-before ∷ P11-after ∷ sample-package ∷ two-consoles ∷ []
 
 -- ---- carrying it out
 
@@ -283,6 +298,18 @@ record Progress : Type 0 where
   done : Bool
   answered : List Action
 
+-- a drain that is lent 1,024 sevens
+abbrev drained : Tables → TotalsReply
+drained T = drainWithTotals capacity T (replicate totalCount 7)
+
+-- the totals other than 0 from a place on, each with its place
+abbrev placedFrom : ℕ → List ℕ → List (ℕ × ℕ)
+placedFrom i [] = []
+placedFrom i (n ∷ totals) = cond (eqb n 0) (placedFrom (suc i) totals) ((i, n) ∷ placedFrom (suc i) totals)
+
+abbrev drainedAs : TotalsReply → Drained
+drainedAs r = record { answer = r .answer; placed = placedFrom 0 (r .totals) }
+
 -- after a call that is to be answered done
 abbrev follow : Progress → Reply Answer → Progress
 follow s r = record { tables = r .tables; done = ifDone (r .answer) (s .done) false; answered = s .answered }
@@ -301,8 +328,8 @@ carryOut (turns a) s =
     let r = turn capacity (s .tables) in
     record { tables = r .tables; done = s .done; answered = s .answered ++ (turns (r .answer) ∷ []) }
 carryOut (drains turned a) s =
-    let r = drain capacity (s .tables) in
-    record { tables = r .tables; done = s .done; answered = s .answered ++ (drains (drainTurns capacity (s .tables)) (r .answer) ∷ []) }
+    let r = drained (s .tables) in
+    record { tables = r .tables; done = s .done; answered = s .answered ++ (drains (drainTurns capacity (s .tables)) (drainedAs r) ∷ []) }
 
 abbrev carryOutAll : List Action → Progress → Progress
 carryOutAll [] s = s
@@ -339,12 +366,12 @@ record Outcome : Type 0 where
 outcome : Case → Outcome
 outcome c =
     let s = carryOutAll (c .script) begun in
-    let r = drain capacity (s .tables) in
+    let r = drained (s .tables) in
     record {
       done = s .done;
       answered = s .answered;
       turned = drainTurns capacity (s .tables);
-      answer = r .answer;
+      answer = drainedAs r;
       facts = map (asked (r .tables)) (c .facts);
     }
 
@@ -352,5 +379,5 @@ expected : Case → Outcome
 expected c = record { done = true; answered = toAnswer (c .script); turned = c .turned; answer = c .answer; facts = c .facts }
 
 cases-hold : map outcome cases ≡ map expected cases
-unfolding cases P1 P2 P3 P4 P5 P6 P7 P8 P9 P10 P11-before P11-after sample-package outcome expected setUp takeIn withdraw takeInPackage turn drain currentValue valueAsOf standing packageOut packageOf itemAnswer layoutFits itemsOf numberAt countBefore encode decode lengthsFit inForm drainHistory drainFor round start startTable runLists run runProgram runFrom step perform effect load store enter named lookup entries lengthFits wellFormed allBelow isWellFormed programOf instructionsFrom instructionAt shiftRight patternOf numberOf wrap floorDiv onesOf onesIn
+unfolding cases P1 P2 P3 P4 P5 P6 P7 P8 P9 P10 P11-before P11-after sample-package two-consoles outcome expected setUp takeIn withdraw takeInPackage turn drain drainWithTotals totals currentValue valueAsOf standing packageOut packageOf itemAnswer layoutFits itemsOf numberAt countBefore encode decode lengthsFit inForm drainHistory drainFor round start startTable runLists run runProgram runFrom step perform effect load store enter named lookup entries lengthFits wellFormed allBelow isWellFormed programOf instructionsFrom instructionAt shiftRight patternOf numberOf wrap floorDiv onesOf onesIn
 cases-hold = refl

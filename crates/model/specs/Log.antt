@@ -9,7 +9,7 @@ use Rattle.model.specs.Refusals.{faultOf}
 use Rattle.model.specs.Package.{Item, taking, withdrawing, itemsOf}
 use Rattle.model.specs.Book.{Book, enter, strike}
 use Rattle.model.specs.declared.Turned.{Turned}
-use Rattle.model.specs.Calls.{answerNumber, eventAnswer, takeIn, withdraw, takeInPackage, turn, drain, roundOf, drainOf}
+use Rattle.model.specs.Calls.{answerNumber, ifDone, eventAnswer, takeIn, withdraw, takeInPackage, turn, drainWithTotals, roundOf, drainOf}
 
 -- the calls that may alter the tables, each with its further arguments as the caller passes them
 pub data Call : Type 0 where
@@ -17,7 +17,7 @@ pub data Call : Type 0 where
   packageCall : List ℕ → List ℕ → Call
   withdrawCall : ℕ → Call
   turnCall : Call
-  drainCall : Call
+  drainCall : List ℕ → Call
 
 -- ---- the book, from arguments and answers alone
 
@@ -79,8 +79,9 @@ afterCall n (withdrawCall t) k =
     record { tables = r .tables; book = bookItem (withdrawing t) (answerNumber (r .answer)) (k .book); events = k .events }
 afterCall n turnCall k =
     record { tables = turn n (k .tables) .tables; book = k .book; events = k .events ++ turnEvents n (k .tables) }
-afterCall n drainCall k =
-    record { tables = drain n (k .tables) .tables; book = k .book; events = k .events ++ drainEvents n (k .tables) }
+afterCall n (drainCall lent) k =
+    let r = drainWithTotals n (k .tables) lent in
+    record { tables = r .tables; book = k .book; events = k .events ++ ifDone (r .answer) (drainEvents n (k .tables)) [] }
 
 abbrev pub afterCalls : ℕ → List Call → Ledger → Ledger
 afterCalls n [] k = k

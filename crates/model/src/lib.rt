@@ -1,6 +1,6 @@
 // The types of the calls' answers. A refusal is given by its number in document 01, "Turned down, in checking order".
 
-// Set up, take in, withdraw, take in a package, plain run.
+// Set up, take in, withdraw, take in a package, drain, plain run, start values.
 pub enum Answer {
     Done,
     // The same timestamp is held with the same program.
@@ -16,19 +16,6 @@ pub enum Turned {
     Cleared(u64),
     // Its run broke off at this place, counted from 0.
     Faulted(u64, usize),
-    Refused(u8),
-}
-
-// How many turns of a drain ran, stood, were cleared and faulted.
-pub struct Totals {
-    pub ran: usize,
-    pub stood: usize,
-    pub cleared: usize,
-    pub faulted: usize,
-}
-
-pub enum Drained {
-    Counted(Totals),
     Refused(u8),
 }
 

@@ -26,7 +26,7 @@ use Rattle.model.proofs.Figure.{drain-ends, drain-within, drain-idle, drain-nex
 use Rattle.model.proofs.Tests.{lengths-of}
 use Rattle.model.proofs.Form.{encode-formed, facts}
 use Rattle.theory.specs.AnyTables.{KeepsForm, DrainsAny, DrainsByTurns}
-use Rattle.theory.proofs.Calls.{empty-sound, turn-call, drain-call, drain-events, drained-history, call-tables, call-sound}
+use Rattle.theory.proofs.Calls.{empty-sound, turn-call, drain-call, drain-events, drain-answered, drained-history, call-tables, call-sound}
 
 -- ---- form
 
@@ -49,7 +49,7 @@ drain-any {n} {c} s =
     let within = drain-within start (historyOf c) (c .view) in
     let turns = length-map (drainOf c .events) eventAnswer in
     record {
-      answered = rw (drain-call s, drain-events s);
+      answered = drain-answered s;
       rising-turns = rw (drain-events s) (d .rising-events);
       few-turns = rw (drain-events s) (omega (arith, within, turns, changesAt-length (c .changes) (c .order), s .placed .counted));
       idle-next = rw (drain-call s, turn-call (drain-sound s), drained-history s, d .idle-next);

@@ -1,21 +1,22 @@
 -- The calls on the tables of a sound cabinet: what they answer, and that they leave the tables of a sound cabinet.
 use mathlib.Core.Path.{_≡_, refl, sym, ap}
-use mathlib.Core.Bool.{cond, not}
+use mathlib.Core.Bool.{Bool, true, false, cond, not}
 use mathlib.Core.List.{List, [], _∷_}
 use Prim.Native.Nat.{ℕ}
 use native.Mathlib.Omega.{arith}
+use borrow.Author.Tests.{eq-eqb}
 use lib.Dec.{eqb}
 use lib.ListN.{length}
 use Rattle.machine.proofs.Cases.{by-test, by-test₂}
-use Rattle.model.specs.declared.Drained.the-variants as drain-answer
+use Rattle.model.specs.declared.Answer.the-variants as answer
 use Rattle.model.specs.History.{start}
 use Rattle.model.specs.Figure.{Step, idle, turned}
-use Rattle.model.specs.Drain.{totals}
+use Rattle.model.specs.Drain.{totalCount, totals}
 use Rattle.model.specs.Cabinet.{Cabinet, emptyCabinet, historyOf, withHistory}
 use Rattle.model.specs.Tables.{Tables, encode}
 use Rattle.model.specs.Refusals.{firstOf, wrongLength, notInForm, test}
 use Rattle.model.specs.Package.{Item, taking, withdrawing, layoutFits, itemsOf}
-use Rattle.model.specs.Calls.{itemAnswer, itemCall, takeIn, withdraw, itemStep, itemSteps, PackageReply, takeInPackage, stepReply, roundOf, turn, drainOf, drain}
+use Rattle.model.specs.Calls.{itemAnswer, itemCall, takeIn, withdraw, itemStep, itemSteps, PackageReply, takeInPackage, stepReply, roundOf, turn, drainOf, drain, TotalsReply, totalsReply, drainWithTotals}
 use Rattle.model.specs.Log.{Call, takeInCall, packageCall, withdrawCall, turnCall, drainCall, turnEvents, drainEvents, stepEvents, Ledger, afterCall}
 use Rattle.model.specs.Sound.{Sound}
 use Rattle.model.proofs.Cabinet.{withHistory-history}
@@ -25,6 +26,7 @@ use Rattle.model.proofs.Order.{placed-of}
 use Rattle.model.proofs.Tests.{Lengths}
 use Rattle.model.proofs.Tables.{decode-encode}
 use Rattle.model.proofs.Form.{encode-formed}
+use Rattle.theory.specs.Totals.{DrainAnswered}
 
 -- ---- the cabinet after a call
 
@@ -45,7 +47,7 @@ cabinetAfter n (takeInCall t p) c = itemStep n c (taking t p)
 cabinetAfter n (packageCall bytes answers) c = cond (eqb (packageRefusal n c bytes answers) 0) (itemSteps n c (itemsOf bytes)) c
 cabinetAfter n (withdrawCall t) c = itemStep n c (withdrawing t)
 cabinetAfter n turnCall c = afterStep c (roundOf c)
-cabinetAfter n drainCall c = drained c
+cabinetAfter n (drainCall lent) c = cond (eqb (length lent) totalCount) (drained c) c
 
 -- a cabinet with nothing held
 pub empty-sound : (n : ℕ) (T : Tables) → Lengths n T → Sound n emptyCabinet
@@ -75,12 +77,23 @@ module _ {n : ℕ} {c : Cabinet} (s : Sound n c) where
   pub turn-events : turnEvents n (encode n c) ≡ stepEvents (roundOf c)
   turn-events = rw (encode-formed s .sized, encode-formed s .form, decode-encode n c s)
 
-  pub drain-call : drain n (encode n c) ≡ record { answer = drain-answer.Counted (totals (drainOf c .events)); tables = encode n (drained c) }
+  pub drain-call : drain n (encode n c) ≡ record { answer = answer.Done; tables = encode n (drained c) }
   unfolding drain
   drain-call = rw (encode-formed s .sized, encode-formed s .form, decode-encode n c s)
 
   pub drain-events : drainEvents n (encode n c) ≡ drainOf c .events
   drain-events = rw (encode-formed s .sized, encode-formed s .form, decode-encode n c s)
+
+  pub totals-call : (lent : List ℕ) → drainWithTotals n (encode n c) lent ≡ cond (eqb (length lent) totalCount) (totalsReply answer.Done (encode n (drained c)) (totals (drainOf c .events))) (totalsReply (answer.Refused 1) (encode n c) lent)
+  unfolding drainWithTotals
+  totals-call lent = rw (drain-call, encode-formed s .sized, encode-formed s .form, decode-encode n c s) (go _ (eqb (length lent) totalCount))
+    where
+      go : (done : TotalsReply) (b : Bool) → let r = firstOf (test 1 (not b) ∷ []) in cond (eqb r 0) done (totalsReply (answer.Refused r) (encode n c) lent) ≡ cond b done (totalsReply (answer.Refused 1) (encode n c) lent)
+      go done true = refl
+      go done false = refl
+
+  pub drain-answered : DrainAnswered n (encode n c)
+  drain-answered lent e = rw (totals-call lent, eq-eqb (length lent) totalCount e, drain-call, drain-events)
 
   pub drained-history : historyOf (drained c) ≡ drainOf c .history
   drained-history = withHistory-history c (drainOf c .history) (drainOf c .view) (s .placed) (keeps-length (drain-keeps start (historyOf c) (c .view)))
@@ -100,7 +113,8 @@ module _ {n : ℕ} {c : Cabinet} (s : Sound n c) where
       go : (x : Step) → stepReply n (encode n c) c x .tables ≡ encode n (afterStep c x)
       go idle = refl
       go (turned h view event) = refl
-  call-tables drainCall k e = rw (e, drain-call s)
+  call-tables (drainCall lent) k e =
+      rw (e, totals-call s lent) (by-test₂ (λ (r : TotalsReply) (d : Cabinet). r .tables ≡ encode n d) (eqb (length lent) totalCount) (λ q. refl) (λ q. refl))
 
   pub call-sound : (call : Call) → Sound n (cabinetAfter n call c)
   call-sound (takeInCall t p) = item-sound (taking t p) s
@@ -111,4 +125,4 @@ module _ {n : ℕ} {c : Cabinet} (s : Sound n c) where
       go : (x : Step) → roundOf c ≡ x → Sound n (afterStep c x)
       go idle q = s
       go (turned h view event) q = round-sound s q
-  call-sound drainCall = drain-sound s
+  call-sound (drainCall lent) = by-test (Sound n) (eqb (length lent) totalCount) (λ q. drain-sound s) (λ q. s)

@@ -14,7 +14,7 @@ use Rattle.model.proofs.Tables.{held-count, decode-encode}
 use Rattle.model.proofs.Form.{encode-formed}
 use Rattle.theory.specs.Demand.{Drains, Demand3}
 use Rattle.theory.proofs.Invariant.{empty-invariant}
-use Rattle.theory.proofs.Calls.{empty-sound, drained, drain-call, drain-events, drained-history}
+use Rattle.theory.proofs.Calls.{empty-sound, drained, drain-call, drain-events, drain-answered, drained-history}
 use Rattle.theory.proofs.Reached.{Holding, Reached, drained-claim, calls-reached}
 
 set-up-reached : (n : ℕ) (T : Tables) → lengthsFit n T ≡ true → Reached n (begun (setUp n T .tables))
@@ -38,7 +38,7 @@ drains n c k h =
     let back : decode (encode n (drained c)) ≡ drained c = decode-encode n (drained c) (drain-sound s) in
     rw (h .tables)
     (record {
-      answered = rw (drain-call s, drain-events s);
+      answered = drain-answered s;
       booked = rw (drain-call s, back, drained-history s) (claim .same-book ∙ h .booked);
       fresh-lists = rw (drain-call s, back, drained-history s) (rw (h .booked) at (claim .fresh-lists));
       no-others = rw (drain-call s, back, held-count n (drained c)) (drain-sound s .placed .covers);

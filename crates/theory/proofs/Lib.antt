@@ -12,3 +12,4 @@ pub mod Faults
 pub mod ReadBack
 pub mod Filling
 pub mod Packages
+pub mod Totals

@@ -10,11 +10,9 @@ use lib.ListN.{length, take, drop, replicate}
 use lib.Seq.{take-at, drop-at}
 use Rattle.machine.proofs.Cases.{by-test, both, impossible}
 use Rattle.model.specs.declared.Answer.the-variants.{Done}
-use Rattle.model.specs.declared.Drained.the-variants.{Counted}
 use Rattle.model.specs.declared.Packed.{Packed}
 use Rattle.model.specs.declared.Packed.the-variants.{Length, Refused}
 use Rattle.model.specs.History.{start, New, Valid, Invalid, Lists, change, History, allSettings}
-use Rattle.model.specs.Drain.{totals}
 use Rattle.model.specs.Cabinet.{Cabinet, emptyCabinet, historyOf}
 use Rattle.model.specs.Tables.{Tables, decode}
 use Rattle.model.specs.Form.{lengthsFit, inForm, Formed}
@@ -22,7 +20,7 @@ use Rattle.model.specs.Refusals.{firstOf, wrongLengths, notInForm, noRoom}
 use Rattle.model.specs.Package.{Item, layoutFits, itemsOf, packageOf}
 use Rattle.model.specs.Book.{Book, booked, bookOf, takings, withdrawals, bookedItems, freshRun, freshEnd}
 use Rattle.model.specs.Calls.{setUp, takeInPackage, drain, heldItems, PackedReply, packageOut}
-use Rattle.model.specs.Log.{Call, packageCall, bookItems, Ledger, begun, afterCall, drainEvents}
+use Rattle.model.specs.Log.{Call, packageCall, bookItems, Ledger, begun, afterCall}
 use Rattle.model.specs.Sound.{Sound}
 use Rattle.model.proofs.Keeps.{drain-sound, history-sound}
 use Rattle.model.proofs.Items.{none-applies}
@@ -31,6 +29,7 @@ use Rattle.model.proofs.Packing.{items-count}
 use Rattle.model.proofs.Tests.{lengths-of}
 use Rattle.model.proofs.Tables.{decode-encode}
 use Rattle.model.proofs.Form.{encode-formed, facts}
+use Rattle.theory.specs.Totals.{DrainAnswered}
 use Rattle.theory.specs.Demand.{listed, Drains}
 use Rattle.theory.specs.Packages.{cabinetOf, writtenOf, ReadsBack, SamePackage, takenInto, Filled}
 use Rattle.theory.proofs.Calls.{empty-sound, drained, drain-call, drained-history}
@@ -180,7 +179,7 @@ module _ (n : ℕ) (T : Tables) (written answers : List ℕ) where
 
 -- what is claimed of the tables after it
 record DrainsAs (n : ℕ) (k : Ledger) (n' : ℕ) (U : Tables) : Type 0 where
-  answered : drain n' U .answer ≡ Counted (totals (drainEvents n' U))
+  answered : DrainAnswered n' U
   changes : historyOf (decode (drain n' U .tables)) ≡ historyOf (decode (drain n (k .tables) .tables))
   view : drain n' U .tables .view ≡ drain n (k .tables) .tables .view
 

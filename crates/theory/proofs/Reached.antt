@@ -8,11 +8,12 @@ use lib.ListN.{length, drop}
 use Rattle.machine.proofs.Cases.{by-test, by-test₂}
 use Rattle.model.specs.History.{start}
 use Rattle.model.specs.Figure.{Event, Step, idle, turned}
+use Rattle.model.specs.Drain.{totalCount}
 use Rattle.model.specs.Cabinet.{Cabinet, historyOf}
 use Rattle.model.specs.Tables.{encode}
 use Rattle.model.specs.Package.{Item, taking, withdrawing, itemsOf}
 use Rattle.model.specs.Book.{bookOf}
-use Rattle.model.specs.Calls.{answerNumber, itemAnswer, itemCall, takeIn, withdraw, itemStep, itemSteps, PackageReply, takeInPackage, roundOf, drainOf}
+use Rattle.model.specs.Calls.{answerNumber, itemAnswer, ifDone, itemCall, takeIn, withdraw, itemStep, itemSteps, PackageReply, takeInPackage, roundOf, drainOf, TotalsReply}
 use Rattle.model.specs.Log.{Call, takeInCall, packageCall, withdrawCall, turnCall, drainCall, bookItem, bookItems, stepEvents, Ledger, afterCall, afterCalls}
 use Rattle.model.specs.Sound.{Sound}
 use Rattle.model.proofs.Cabinet.{withHistory-history, remove-history, add-history}
@@ -23,7 +24,7 @@ use Rattle.theory.proofs.Invariant.{Invariant}
 use Rattle.theory.proofs.Turns.{StepClaim, turn-claim}
 use Rattle.theory.proofs.Drains.{DrainClaim, drain-claim}
 use Rattle.theory.proofs.Items.{insert-invariant, withdraw-invariant}
-use Rattle.theory.proofs.Calls.{afterStep, packageRefusal, cabinetAfter, item-call, turn-events, drain-events, drained-history, call-tables, call-sound}
+use Rattle.theory.proofs.Calls.{afterStep, packageRefusal, cabinetAfter, item-call, turn-events, drain-events, totals-call, drained-history, call-tables, call-sound}
 
 -- ---- items
 
@@ -68,7 +69,10 @@ module _ {n : ℕ} {c : Cabinet} {k : Ledger} (h : Holding n c k) where
       by-test (λ (d : Cabinet). Invariant (k .events) (historyOf d) (d .view)) (eqb (packageRefusal n c bytes answers) 0)
       (λ q. items-invariant n c (itemsOf bytes) (k .events) (h .sound) (h .invariant)) (λ q. h .invariant)
   call-invariant turnCall = rw (h .tables, turn-events (h .sound)) (turn-kept .0)
-  call-invariant drainCall = rw (h .tables, drain-events (h .sound), drained-history (h .sound)) (drained-claim .invariant)
+  call-invariant (drainCall lent) =
+      rw (h .tables, drain-events (h .sound), totals-call (h .sound) lent)
+      (by-test₂ (λ (r : TotalsReply) (d : Cabinet). Invariant (k .events ++ ifDone (r .answer) (drainOf c .events) []) (historyOf d) (d .view)) (eqb (length lent) totalCount)
+      (λ q. rw (drained-history (h .sound)) (drained-claim .invariant)) (λ q. rw append-nil (h .invariant)))
 
   item-booked : (i : Item) → bookOf (historyOf (itemStep n c i)) ≡ bookItem i (answerNumber (itemCall n (k .tables) i .answer)) (k .book)
   item-booked i = rw (h .tables, item-call (h .sound) i, ← h .booked) (item-book i (h .sound))
@@ -83,7 +87,8 @@ module _ {n : ℕ} {c : Cabinet} {k : Ledger} (h : Holding n c k) where
       (λ q. rw (← h .booked) (items-book (itemsOf bytes) (drop (length (itemsOf bytes)) answers) (h .sound)))
       (λ q. rw q (h .booked)))
   call-booked turnCall = turn-kept .1
-  call-booked drainCall = rw (drained-history (h .sound)) (drained-claim .same-book ∙ h .booked)
+  call-booked (drainCall lent) =
+      by-test (λ (d : Cabinet). bookOf (historyOf d) ≡ k .book) (eqb (length lent) totalCount) (λ q. rw (drained-history (h .sound)) (drained-claim .same-book ∙ h .booked)) (λ q. h .booked)
 
   call-holds : (call : Call) → Holding n (cabinetAfter n call c) (afterCall n call k)
   call-holds call =

@@ -4,20 +4,20 @@ use mathlib.Core.List.{[], _∷_}
 use Prim.Native.Nat.{ℕ, _≤_}
 use lib.ListN.{length}
 use Rattle.model.specs.declared.Turned.the-variants.{Idle}
-use Rattle.model.specs.declared.Drained.the-variants.{Counted}
-use Rattle.model.specs.Drain.{totals, RisingEvents}
+use Rattle.model.specs.Drain.{RisingEvents}
 use Rattle.model.specs.Tables.{Tables, heldCount}
 use Rattle.model.specs.Form.{Formed}
 use Rattle.model.specs.Calls.{turn, drain}
 use Rattle.model.specs.Log.{Call, drainEvents, drainTurns, Ledger, afterCall}
+use Rattle.theory.specs.Totals.{DrainAnswered}
 
 -- every call on tables in form, answered or refused, leaves tables in form
 abbrev pub KeepsForm : ℕ → Call → Ledger → Type 0
 KeepsForm n call k = Formed n (k .tables) → Formed n (afterCall n call k .tables)
 
--- a drain is answered with the counts of its turns, which go by rising timestamp, so that no change has two, and are at most as many as the held changes; after it a turn is idle
+-- a drain is answered with the totals of its turns, which go by rising timestamp, so that no change has two, and are at most as many as the held changes; after it a turn is idle
 pub record DrainsAny (n : ℕ) (T : Tables) : Type 0 where
-  pub answered : drain n T .answer ≡ Counted (totals (drainEvents n T))
+  pub answered : DrainAnswered n T
   pub rising-turns : RisingEvents 0 (drainEvents n T)
   pub few-turns : length (drainTurns n T) ≤ heldCount T
   pub idle-next : turn n (drain n T .tables) .answer ≡ Idle

@@ -7,16 +7,15 @@ use Prim.Native.Nat.{ℕ, _<_}
 use lib.Dec.{eqb}
 use Rattle.machine.specs.Settings.{Holds}
 use Rattle.machine.specs.Run.{Outcome}
-use Rattle.model.specs.declared.Drained.the-variants.{Counted}
 use Rattle.model.specs.History.{start, Lists, Change, timestamp, lists, allSettings}
 use Rattle.model.specs.Figure.{Event, ran, stood, cleared, eventTimestamp}
-use Rattle.model.specs.Drain.{totals}
 use Rattle.model.specs.Cabinet.{In, historyOf}
 use Rattle.model.specs.Tables.{Tables, heldCount, decode}
 use Rattle.model.specs.Form.{inForm}
 use Rattle.model.specs.Book.{Book, bookOf, freshRun, freshEnd, freshBefore}
 use Rattle.model.specs.Calls.{setUp, drain}
 use Rattle.model.specs.Log.{Call, Ledger, begun, afterCalls, drainEvents}
+use Rattle.theory.specs.Totals.{DrainAnswered}
 
 -- no turn of a list is for this change
 abbrev pub NoTurn : ℕ → List Event → Type 0
@@ -58,8 +57,8 @@ listed c = (timestamp c, lists c)
 
 -- what is claimed of the tables, the book and the turns before the last drain
 pub record Drains (n : ℕ) (k : Ledger) : Type 0 where
-  -- "The last call is a drain that is answered"
-  pub answered : drain n (k .tables) .answer ≡ Counted (totals (drainEvents n (k .tables)))
+  -- "The last call is a drain that is answered": with any 1,024 totals lent it answers done, leaves the tables that the fields below speak of, and the totals of its turns (document 02, R-5)
+  pub answered : DrainAnswered n (k .tables)
   -- "Held changes are those in the book": timestamp, program, withdrawn or not
   pub booked : bookOf (historyOf (decode (drain n (k .tables) .tables))) ≡ k .book
   -- "After the last drain the tables hold the book's timestamps and no others, each with the fresh run's lists, entry for entry in order"

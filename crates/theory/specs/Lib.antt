@@ -1,3 +1,4 @@
+pub mod Totals
 pub mod Demand
 pub mod Faults
 pub mod AnyTables

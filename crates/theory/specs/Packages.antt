@@ -5,15 +5,14 @@ use mathlib.Core.List.{List, _++_}
 use Prim.Native.Nat.{ℕ, _≤_}
 use lib.ListN.{length, take, drop, replicate}
 use Rattle.model.specs.declared.Answer.the-variants.{Done}
-use Rattle.model.specs.declared.Drained.the-variants.{Counted}
 use Rattle.model.specs.declared.Packed.the-variants.{Length}
-use Rattle.model.specs.Drain.{totals}
 use Rattle.model.specs.Cabinet.{historyOf}
 use Rattle.model.specs.Tables.{Tables, decode}
 use Rattle.model.specs.Form.{lengthsFit}
 use Rattle.model.specs.Package.{entryCount, layoutFits, itemsOf}
 use Rattle.model.specs.Calls.{setUp, PackageReply, takeInPackage, drain, heldItems, packageOut}
-use Rattle.model.specs.Log.{Call, packageCall, Ledger, begun, afterCall, afterCalls, drainEvents}
+use Rattle.model.specs.Log.{Call, packageCall, Ledger, begun, afterCall, afterCalls}
+use Rattle.theory.specs.Totals.{DrainAnswered}
 
 -- "In these requests a cabinet means tables reached from set-up by the calls."
 abbrev pub cabinetOf : ℕ → Tables → List Call → Ledger
@@ -54,8 +53,8 @@ pub record FilledWith (n : ℕ) (k : Ledger) (n' : ℕ) (U : Tables) (written an
   -- the two cabinets hold the same changes and withdrawn marks
   pub same-book : afterCall n' (packageCall written answers) (begun (setUp n' U .tables)) .book ≡ k .book
   -- each drain is answered
-  pub drained : drain n' (takenInto n' U written answers .tables) .answer ≡ Counted (totals (drainEvents n' (takenInto n' U written answers .tables)))
-  pub neighbour-drained : drain n (k .tables) .answer ≡ Counted (totals (drainEvents n (k .tables)))
+  pub drained : DrainAnswered n' (takenInto n' U written answers .tables)
+  pub neighbour-drained : DrainAnswered n (k .tables)
   -- after them both have the same changes by rising timestamp: program, status, withdrawn or not, read list, seen values, write list
   pub changes : historyOf (decode (drain n' (takenInto n' U written answers .tables) .tables)) ≡ historyOf (decode (drain n (k .tables) .tables))
   -- and the same value of every setting

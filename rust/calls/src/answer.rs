@@ -5,7 +5,7 @@
 //! | `done` | `set_up`, `take_in`, `withdraw`, `load` |
 //! | `held` | `take_in`: the same change is already held |
 //! | `idle`, `ran TS`, `stood TS`, `cleared TS`, `faulted TS PLACE` | `turn`: PLACE is that of the instruction that broke off, counted from 0 |
-//! | `totals RAN STOOD CLEARED FAULTED` | `drain` |
+//! | `done by console {"P": T, ..}` | `drain`: the totals that are not 0, by rising place. P is 4 × the console of a change, the lowest 8 bits of its timestamp, + 0 ran, 1 stood, 2 cleared, 3 faulted; T is the number of such turns |
 //! | `value V` | `current`, `value_as_of` |
 //! | `standing STATUS FLAG` | `standing`: 0 New, 1 Valid, 2 Invalid; 1 withdrawn, else 0 |
 //! | `done answers [a, b, ..]` | `take_in_package`: for each entry 0 done, 255 already held, else the refusal |
@@ -17,8 +17,8 @@
 use crate::json;
 use crate::script::{Call, Quoted};
 use std::{fmt, fs, io};
-use tolbezun::calls::{self, ANSWERS};
-use tolbezun::{start_values, Refusal, Tables, Taken, Totals, Turned, MAX_CAPACITY, SETTINGS};
+use tolbezun::calls::{self, ANSWERS, TOTALS};
+use tolbezun::{start_values, Refusal, Tables, Taken, Turned, MAX_CAPACITY, SETTINGS};
 
 /// A capacity, and the tables that each call is lent.
 pub struct Runner {
@@ -30,7 +30,7 @@ pub struct Runner {
 #[derive(Debug)]
 pub enum Error {
     /// There is no room for a lent slice of so many bytes.
-    Room(usize),
+    Room(u128),
     /// The file to load cannot be read.
     File(String, io::Error),
     /// The file to load does not hold tables.
@@ -40,7 +40,7 @@ pub enum Error {
 impl fmt::Display for Error {
     fn fmt(&self, f: &mut fmt::Formatter<'_>) -> fmt::Result {
         match self {
-            Self::Room(length) => write!(f, "there is no room for {length} bytes"),
+            Self::Room(bytes) => write!(f, "there is no room for {bytes} bytes"),
             Self::File(file, error) => write!(f, "cannot read {}: {error}", Quoted(file)),
             Self::Contents(file, error) => {
                 write!(f, "{} does not hold tables: {error}", Quoted(file))
@@ -73,7 +73,10 @@ impl Runner {
             } => calls::take_in(n, tables, timestamp, program).map(taken),
             Call::Withdraw { timestamp } => calls::withdraw(n, tables, timestamp).map(done),
             Call::Turn => calls::turn(n, tables).map(turned),
-            Call::Drain => calls::drain(n, tables).map(totals),
+            Call::Drain { totals } => {
+                let mut totals = zeros(totals.unwrap_or(TOTALS))?;
+                calls::drain(n, tables, &mut totals).map(|()| by_console(&totals))
+            }
             Call::CurrentValue { setting } => calls::current_value(n, tables, setting).map(value),
             Call::ValueAsOf { timestamp, setting } => {
                 calls::value_as_of(n, tables, timestamp, setting).map(value)
@@ -133,14 +136,14 @@ fn turned(turned: Turned) -> String {
     }
 }
 
-fn totals(totals: Totals) -> String {
-    let Totals {
-        ran,
-        stood,
-        cleared,
-        faulted,
-    } = totals;
-    format!("totals {ran} {stood} {cleared} {faulted}")
+fn by_console(totals: &[u16]) -> String {
+    let counted: Vec<String> = totals
+        .iter()
+        .enumerate()
+        .filter(|(_, total)| **total != 0)
+        .map(|(place, total)| format!(r#""{place}": {total}"#))
+        .collect();
+    format!("done by console {{{}}}", counted.join(", "))
 }
 
 fn value(value: i32) -> String {
@@ -161,11 +164,11 @@ fn refused(refusal: Refusal) -> String {
 }
 
 /// So many zeros.
-fn zeros(length: usize) -> Result<Vec<u8>, Error> {
+fn zeros<T: Clone + Default>(length: usize) -> Result<Vec<T>, Error> {
     let mut zeros = Vec::new();
     let reserved = zeros.try_reserve_exact(length);
-    reserved.map_err(|_| Error::Room(length))?;
-    zeros.resize(length, 0);
+    reserved.map_err(|_| Error::Room(length as u128 * size_of::<T>() as u128))?;
+    zeros.resize(length, T::default());
     Ok(zeros)
 }
 

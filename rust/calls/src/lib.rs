@@ -7,7 +7,7 @@
 //! let script = "set_up\ntake_in 10 01000000070000000d00000022000000\ndrain\ncurrent 34\n";
 //! let mut answers = Vec::new();
 //! calls::run(128, script.as_bytes(), &mut answers).expect("every line can be read");
-//! assert_eq!(answers, b"done\ndone\ntotals 1 0 0 0\nvalue 7\n");
+//! assert_eq!(answers, b"done\ndone\ndone by console {\"40\": 1}\nvalue 7\n");
 //! ```
 
 #![forbid(unsafe_code)]

@@ -14,7 +14,7 @@ const CAPACITY: usize = 128;
 
 const USAGE: &str = "usage: calls [--n N] [FILE]";
 
-const HELP: &str = "
+const HELP: &str = r#"
 Carries out calls, one to a line, on the proved change history of a cabinet, and
 prints one answer line each. The lines come from FILE or from standard input.
 
@@ -26,7 +26,7 @@ set_up                      done
 take_in TS HEX              done, held
 withdraw TS                 done
 turn                        idle, ran TS, stood TS, cleared TS, faulted TS PLACE
-drain                       totals RAN STOOD CLEARED FAULTED
+drain [lenL]                done by console {"P": T, ..}, the totals that are not 0
 current S                   value V
 value_as_of TS S            value V
 standing TS                 standing STATUS FLAG
@@ -38,13 +38,15 @@ tables                      the tables, one line of JSON
 load FILE                   done; FILE has tables as `tables` prints them
 
 TS is a timestamp, S a setting, HEX bytes as pairs of hexadecimal digits, or - for
-none. PLACE is that of the instruction that broke off, counted from 0. With lenL an
-answer slice of L zeros is lent instead of 512; package_out is lent L zeros. Empty
-lines and lines that start with # are passed over.
+none. PLACE is that of the instruction that broke off, counted from 0. P is 4 x the
+console of a change, the lowest 8 bits of its TS, + 0 ran, 1 stood, 2 cleared, 3
+faulted; T is the number of such turns. With lenL a slice of L zeros is lent, to
+drain instead of 1,024, to take_in_package instead of 512; package_out is lent L
+zeros. Empty lines and lines that start with # are passed over.
 
 A line that cannot be read ends the run with a message and exit status 1, wrong
 arguments with status 2.
-";
+"#;
 
 /// What the arguments ask for.
 enum Command {

@@ -9,11 +9,12 @@
 //! | `set_up` | set up |
 //! | `take_in TS HEX` | take in the change with this timestamp and program |
 //! | `withdraw TS` | withdraw |
-//! | `turn`, `drain` | turn, drain |
+//! | `turn` | turn |
+//! | `drain [lenL]` | drain |
 //! | `current S` | current value of a setting |
 //! | `value_as_of TS S` | value of a setting as of a timestamp |
 //! | `standing TS` | standing of a timestamp |
-//! | `take_in_package HEX [lenL]` | take in a package; with `lenL`, for example `len511`, an answer slice of that length is lent instead of 512 |
+//! | `take_in_package HEX [lenL]` | take in a package |
 //! | `package_out L` | package out; a slice of L zero bytes is lent |
 //! | `plain_run` | plain run |
 //! | `start_values` | start values |
@@ -21,7 +22,9 @@
 //! | `load FILE` | no call: the calls after it are lent the tables of this file |
 //!
 //! `TS` is a number of 64 bits, `S` and `L` are numbers of the machine's size, all in decimal
-//! digits alone. `HEX` is the bytes as pairs of hexadecimal digits, or `-` for none.
+//! digits alone. `HEX` is the bytes as pairs of hexadecimal digits, or `-` for none. A drain is lent
+//! 1,024 totals and take in a package 512 answers; with `lenL`, for example `len511`, a slice of that
+//! length is lent instead.
 
 use std::fmt;
 use std::str::{self, FromStr};
@@ -39,7 +42,10 @@ pub enum Call {
         timestamp: u64,
     },
     Turn,
-    Drain,
+    /// `totals` is the length of the slice of totals to lend, where the line gives one.
+    Drain {
+        totals: Option<usize>,
+    },
     CurrentValue {
         setting: usize,
     },
@@ -149,7 +155,9 @@ pub fn read(line: &[u8]) -> Result<Option<Call>, Error> {
             timestamp: arguments.timestamp()?,
         },
         "turn" => Call::Turn,
-        "drain" => Call::Drain,
+        "drain" => Call::Drain {
+            totals: arguments.lent()?,
+        },
         "current" => Call::CurrentValue {
             setting: arguments.setting()?,
         },
@@ -162,7 +170,7 @@ pub fn read(line: &[u8]) -> Result<Option<Call>, Error> {
         },
         "take_in_package" => Call::TakeInPackage {
             package: arguments.bytes()?,
-            answers: arguments.answers()?,
+            answers: arguments.lent()?,
         },
         "package_out" => Call::PackageOut {
             length: arguments.length()?,
@@ -217,7 +225,8 @@ impl<'a, W: Iterator<Item = &'a str>> Arguments<W> {
         number("L", self.word("L")?)
     }
 
-    fn answers(&mut self) -> Result<Option<usize>, Error> {
+    /// The length of a slice to lend, where the line gives one.
+    fn lent(&mut self) -> Result<Option<usize>, Error> {
         let Some(word) = self.0.next() else {
             return Ok(None);
         };

@@ -1,10 +1,10 @@
 //! The calls, made on the proved library and on the outside implementation, and compared.
 
-use crate::generate::{packages, Random};
+use crate::generate::{self, packages, Random};
 use crate::packages_out::Size;
 use crate::proved::calls as proved;
 use outside::calls::{self, Refusal, Standing};
-use outside::checker::{self, Totals, Turn};
+use outside::checker::{self, Turn, TOTALS};
 use outside::intake::{self, Taken};
 use outside::package::{self, ANSWERS};
 use outside::program::SETTINGS;
@@ -108,22 +108,12 @@ impl Both {
     /// Takes in a package. The answers are left as both leave them.
     #[track_caller]
     pub fn take_in_package(&mut self, package: &[u8], answers: &mut [u8]) -> Result<(), u8> {
-        let given = answers.to_vec();
-        let mut by_proved = given.clone();
-        let taken = self.call(
+        self.call_lending(
             &format_args!("taking in the package {package:?}"),
-            |n, tables| proved::take_in_package(n, tables, package, &mut by_proved),
-            |n, tables| package::take_in_package(n, tables, package, answers),
-        );
-        assert!(
-            by_proved == answers,
-            "answers {by_proved:?}, by the outside {answers:?}, of {package:?}"
-        );
-        assert!(
-            taken.is_ok() || by_proved == given,
-            "{taken:?} alters the answers"
-        );
-        taken
+            answers,
+            |n, tables, answers| proved::take_in_package(n, tables, package, answers),
+            |n, tables, answers| package::take_in_package(n, tables, package, answers),
+        )
     }
 
     /// Makes a turn. The answer is none for idle.
@@ -132,10 +122,10 @@ impl Both {
         self.call(&"a turn", proved::turn, checker::turn)
     }
 
-    /// Drains.
+    /// Drains. The totals are left as both leave them.
     #[track_caller]
-    pub fn drain(&mut self) -> Result<Totals, u8> {
-        self.call(&"a drain", proved::drain, checker::drain)
+    pub fn drain(&mut self, totals: &mut [u16]) -> Result<(), u8> {
+        self.call_lending(&"a drain", totals, proved::drain, checker::drain)
     }
 
     /// Makes a call that only reads.
@@ -232,7 +222,8 @@ impl Both {
             assert_eq!(taken, Err(refusal), "{self:?}");
         }
         assert_eq!(self.turn(), Err(refusal), "{self:?}");
-        assert_eq!(self.drain(), Err(refusal), "{self:?}");
+        let mut totals = generate::totals(random, TOTALS);
+        assert_eq!(self.drain(&mut totals), Err(refusal), "{self:?}");
     }
 
     #[track_caller]
@@ -249,6 +240,34 @@ impl Both {
         assert!(
             answer.is_ok() || self.outside == before,
             "{answer:?} of {call:?} alters the tables"
+        );
+        answer
+    }
+
+    /// Makes a call that is lent a slice besides the tables. Both must leave it alike, and a refusal as
+    /// it was.
+    #[track_caller]
+    fn call_lending<T: Copy + Debug + PartialEq>(
+        &mut self,
+        call: &dyn Debug,
+        lent: &mut [T],
+        proved: impl FnOnce(usize, &mut tolbezun::Tables, &mut [T]) -> Result<(), u8>,
+        outside: impl FnOnce(usize, &mut Tables, &mut [T]) -> Result<(), Refusal>,
+    ) -> Result<(), u8> {
+        let given = lent.to_vec();
+        let mut by_proved = given.clone();
+        let answer = self.call(
+            call,
+            |n, tables| proved(n, tables, &mut by_proved),
+            |n, tables| outside(n, tables, lent),
+        );
+        assert!(
+            by_proved == lent,
+            "{call:?} leaves {by_proved:?}, by the outside {lent:?}, of {self:?}"
+        );
+        assert!(
+            answer.is_ok() || by_proved == given,
+            "{answer:?} of {call:?} alters the lent slice"
         );
         answer
     }

@@ -5,6 +5,7 @@ pub mod scripts;
 pub mod tables;
 pub mod write_lists;
 
+use outside::checker::TOTALS;
 use outside::program::{op, Instruction, INSTRUCTION_BYTES, MAX_INSTRUCTIONS, REGISTERS, SETTINGS};
 
 /// The SplitMix64 generator.
@@ -236,6 +237,14 @@ pub fn values(random: &mut Random) -> Box<[i32; SETTINGS]> {
     let mut values = Box::new([0; SETTINGS]);
     values.fill_with(|| number(random, &settings));
     values
+}
+
+/// Lengths of lent totals for which a drain is refused.
+pub const REFUSED_TOTALS: [usize; 4] = [0, 4, TOTALS - 1, TOTALS + 1];
+
+/// Contents for a lent slice of totals.
+pub fn totals(random: &mut Random, length: usize) -> Vec<u16> {
+    (0..length).map(|_| random.bits() as u16).collect()
 }
 
 /// The number of a setting: any of them, and the first and the last more often.

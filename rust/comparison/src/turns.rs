@@ -1,6 +1,6 @@
 //! What turns do, to count it.
 
-use outside::checker::{Turn, Turned};
+use outside::checker::{Turn, Turned, CONSOLES, KINDS};
 use outside::program::{self, Access, Fault, SETTINGS};
 use outside::start::{settings_at_start, start_value};
 use outside::tables::{Status, Tables, INFINITY};
@@ -79,6 +79,15 @@ pub enum DrainEvent {
     /// A change stays Valid and has no turn, though it saw another value than that as of its
     /// timestamp.
     WrongSeenStays,
+    /// So many consoles have turns, and one has so many, which is the most. Both are rounded down to
+    /// a power of two.
+    Consoles(usize),
+    MostOfConsole(usize),
+    /// Console 0 has turns, and console 255.
+    FirstConsole,
+    LastConsole,
+    /// A console has turns of several kinds.
+    KindsOfConsole,
 }
 
 /// What a turn did that altered the tables so.
@@ -328,6 +337,39 @@ impl Drain {
         }
         events
     }
+}
+
+/// How many turns of a drain were of each kind, by its totals.
+pub fn sums(totals: &[u16]) -> [usize; KINDS] {
+    let mut sums = [0; KINDS];
+    let (consoles, _) = totals.as_chunks::<KINDS>();
+    for console in consoles {
+        for (sum, &total) in sums.iter_mut().zip(console) {
+            *sum += usize::from(total);
+        }
+    }
+    sums
+}
+
+/// What comes of the turns of a drain, by its totals.
+pub fn counted(totals: &[u16]) -> Vec<DrainEvent> {
+    let (consoles, _) = totals.as_chunks::<KINDS>();
+    let turns = |console: &[u16; KINDS]| console.iter().copied().map(usize::from).sum();
+    let turns: Vec<usize> = consoles.iter().map(turns).collect();
+    let with_turns = turns.iter().filter(|&&turns| turns > 0).count();
+    let most = turns.iter().copied().max().unwrap_or(0);
+    let rounded = |count: usize| count.checked_ilog2().map_or(0, |log| 1 << log);
+    let kinds = |console: &[u16; KINDS]| console.iter().filter(|&&total| total > 0).count();
+    let several = consoles.iter().any(|console| kinds(console) > 1);
+    let possible = [
+        (true, DrainEvent::Consoles(rounded(with_turns))),
+        (true, DrainEvent::MostOfConsole(rounded(most))),
+        (turns[0] > 0, DrainEvent::FirstConsole),
+        (turns[CONSOLES - 1] > 0, DrainEvent::LastConsole),
+        (several, DrainEvent::KindsOfConsole),
+    ];
+    let happened = possible.into_iter().filter(|(happened, _)| *happened);
+    happened.map(|(_, event)| event).collect()
 }
 
 /// The value of a setting as of a timestamp.

@@ -9,11 +9,14 @@ use comparison::proved::calls as proved;
 use comparison::reached::Reached;
 use comparison::seeds::{count_reached, with_seeds};
 use comparison::turns::{self, DrainEvent, TurnEvent};
-use outside::checker::{Totals, Turned};
+use outside::checker::{Turned, CONSOLES, KINDS, TOTALS};
 use outside::intake::Taken;
 use outside::package::{lay_out, ANSWERS};
-use outside::program::{Fault, MAX_INSTRUCTIONS};
-use outside::tables::{in_form, INFINITY, LIST_ENTRIES, MAX_CAPACITY};
+use outside::program::{op, Fault, Instruction, MAX_INSTRUCTIONS};
+use outside::tables::{
+    in_form, Status, Tables, INFINITY, LIST_ENTRIES, MAX_CAPACITY, PROGRAM_BYTES,
+};
+use std::{array, iter};
 
 /// How many tables with lists unrelated to their programs are drained.
 const TABLES: usize = 6_000;
@@ -54,18 +57,21 @@ const SUBTLE: [Event; 9] = [
     Event::Turn(TurnEvent::WrongViewOfUnchanged),
 ];
 
-/// Makes turns until one is idle, and a drain on the tables as they were, which must do the same.
-fn drain(both: Both, reached: &mut Reached<Event>) {
+/// Makes turns until one is idle, and a drain on the tables as they were, which must do the same and
+/// count them.
+fn drain(random: &mut Random, both: Both, reached: &mut Reached<Event>) {
     let mut drained = both.clone();
     let mut single = both;
-    let mut totals = Totals::default();
+    let mut totals = [0; TOTALS];
+    let mut of_kind = [0; KINDS];
     let mut turns = turns::Drain::default();
     loop {
         let before = single.tables().clone();
         let Some(turn) = single.turn().expect("the tables are in form") else {
             break;
         };
-        totals.count(turn.turned);
+        totals[turn.total_place()] += 1;
+        of_kind[turn.turned.kind()] += 1;
         for event in turns::events(&before, single.tables(), turn) {
             reached.count(Event::Turn(event));
         }
@@ -76,14 +82,20 @@ fn drain(both: Both, reached: &mut Reached<Event>) {
     for event in turns.left(single.tables()) {
         reached.count(Event::Drain(event));
     }
-    let turned = totals.ran + totals.stood + totals.cleared + totals.faulted;
+    let turned: usize = of_kind.iter().sum();
     reached.count(match turned {
         0 => Event::Idle,
         _ => Event::Waiting,
     });
-    let held = single.tables().held_count() as u64;
+    let held = single.tables().held_count();
     assert!(turned <= held, "{turned} turns of {held} changes");
-    assert_eq!(drained.drain(), Ok(totals));
+    let mut lent = generate::totals(random, TOTALS);
+    assert_eq!(drained.drain(&mut lent), Ok(()));
+    assert!(lent == totals, "{lent:?}, of single turns {totals:?}");
+    assert_eq!(turns::sums(&lent), of_kind);
+    for event in turns::counted(&lent) {
+        reached.count(Event::Drain(event));
+    }
     assert!(
         drained.tables() == single.tables(),
         "a drain's turns are single turns"
@@ -110,7 +122,7 @@ fn interfering_tables(random: &mut Random) -> (Source, Both) {
 fn turns_and_drains_leave_the_same_tables() {
     let reached = count_reached(TABLES, |random, _, reached| {
         let (_, both) = interfering_tables(random);
-        drain(both, reached);
+        drain(random, both, reached);
     });
     for turned in [Turned::Ran, Turned::Stood, Turned::Cleared] {
         let event = Event::Turn(TurnEvent::Answered(turned));
@@ -142,8 +154,20 @@ fn turns_and_drains_leave_the_same_tables() {
         Event::Turn(TurnEvent::ViewWritten),
         Event::Turn(TurnEvent::ViewOnRemoval),
         Event::Turn(TurnEvent::ViewOfLaterWriter),
+        Event::Drain(DrainEvent::Consoles(1)),
+        Event::Drain(DrainEvent::Consoles(2)),
+        Event::Drain(DrainEvent::Consoles(4)),
+        Event::Drain(DrainEvent::KindsOfConsole),
     ] {
         reached.assert_at_least(TABLES / 20, event);
+    }
+    for event in [
+        DrainEvent::MostOfConsole(2),
+        DrainEvent::MostOfConsole(4),
+        DrainEvent::FirstConsole,
+        DrainEvent::LastConsole,
+    ] {
+        reached.assert_at_least(TABLES / 100, Event::Drain(event));
     }
     for event in SUBTLE {
         reached.assert_at_least(TABLES / 300, event);
@@ -175,10 +199,13 @@ fn turns_and_drains_of_larger_tables_leave_the_same_tables() {
         };
         let source = Source::naming(random, n, settings);
         let tables = source.tables_of(random, n, held, &shape);
-        drain(Both::new(n, tables), reached);
+        drain(random, Both::new(n, tables), reached);
     });
     for event in SUBTLE {
         reached.assert_at_least(LARGER / 4, event);
+    }
+    for event in [DrainEvent::Consoles(128), DrainEvent::MostOfConsole(64)] {
+        reached.assert_at_least(LARGER / 40, Event::Drain(event));
     }
 }
 
@@ -195,7 +222,7 @@ fn turns_and_drains_at_the_highest_capacity_leave_the_same_tables() {
         };
         let source = Source::naming(random, n, 1_024);
         let tables = source.tables_of(random, n, n, &shape);
-        drain(Both::new(n, tables), reached);
+        drain(random, Both::new(n, tables), reached);
     });
     for event in [TurnEvent::RanFirst, TurnEvent::RanAgain, TurnEvent::Marked] {
         reached.assert_at_least(10 * LARGEST, Event::Turn(event));
@@ -215,18 +242,91 @@ fn a_drain_of_thousands_of_turns_leaves_the_same_tables() {
         };
         let tables = source.tables_of(random, n, n, &shape);
         let mut single = proved::lend(&tables);
-        let mut totals = Totals::default();
+        let mut totals = [0; TOTALS];
         while let Some(turn) = proved::turn(n, &mut single).expect("the tables are in form") {
-            totals.count(turn.turned);
+            totals[turn.total_place()] += 1;
         }
-        println!("{totals:?}");
-        assert!(totals.ran > 1_000);
+        let of_kind @ [ran, ..] = turns::sums(&totals);
+        println!("ran, stood, cleared, faulted: {of_kind:?}");
+        assert!(ran > 1_000);
         let mut drained = Both::new(n, tables);
-        assert_eq!(drained.drain(), Ok(totals));
+        let mut lent = generate::totals(random, TOTALS);
+        assert_eq!(drained.drain(&mut lent), Ok(()));
+        assert!(lent == totals, "{lent:?}, of single turns {totals:?}");
         assert!(
             *drained.proved_tables() == single,
             "a drain's turns are single turns"
         );
+    });
+}
+
+/// An answer of each kind, in the order of the totals. The fault is that of [`assert_counted`].
+const OF_KIND: [Turned; KINDS] = [
+    Turned::Ran,
+    Turned::Stood,
+    Turned::Cleared,
+    Turned::Faulted(1),
+];
+
+/// Drains tables of the highest capacity that hold changes with these timestamps, each of which has a
+/// turn with this answer, and panics unless these are the totals.
+#[track_caller]
+fn assert_counted(random: &mut Random, turns: &[(u64, Turned)], totals: &[u16; TOTALS]) {
+    // It writes to setting −1.
+    let faulting = [(op::CONSTANT, -1), (op::WRITE_INDEXED, 0)].map(|(op, n)| {
+        let unused = Instruction::default();
+        Instruction { op, n, ..unused }.to_bytes()
+    });
+    let mut tables = Tables::new(MAX_CAPACITY);
+    tables.held[0] = turns.len() as u16;
+    for (place, &(timestamp, turned)) in turns.iter().enumerate() {
+        tables.timestamps[place] = timestamp;
+        tables.order[place] = place as u16;
+        match turned {
+            Turned::Ran => {}
+            Turned::Stood => tables.status[place] = Status::Invalid.number(),
+            Turned::Cleared => tables.withdrawn[place] = 1,
+            Turned::Faulted(_) => {
+                let program = faulting.as_flattened();
+                tables.lengths[place] = faulting.len() as u16;
+                tables.programs[PROGRAM_BYTES * place..][..program.len()].copy_from_slice(program);
+            }
+        }
+    }
+    tables.order[..turns.len()].sort_unstable_by_key(|&place| turns[usize::from(place)].0);
+    let mut both = Both::new(MAX_CAPACITY, tables);
+    let mut lent = generate::totals(random, TOTALS);
+    assert_eq!(both.drain(&mut lent), Ok(()));
+    assert!(lent == totals, "{lent:?}, not {totals:?}");
+}
+
+/// Each of the 1,024 totals is 1 to 7.
+#[test]
+fn every_total_counts_the_turns_of_its_console_and_kind() {
+    with_seeds(|random, _| {
+        let totals = array::from_fn(|place| 1 + place as u16 % 7);
+        let turns = totals.iter().enumerate();
+        let turns = turns.flat_map(|(place, &total)| iter::repeat_n(place, total.into()));
+        let mut above: Vec<u64> = (1..=MAX_CAPACITY as u64).collect();
+        random.shuffle(&mut above);
+        let turns = turns.zip(above).map(|(place, above)| {
+            let console = (place / KINDS) as u64;
+            (above << 8 | console, OF_KIND[place % KINDS])
+        });
+        assert_counted(random, &turns.collect::<Vec<_>>(), &totals);
+    });
+}
+
+#[test]
+fn a_console_may_have_every_turn() {
+    with_seeds(|random, _| {
+        for (kind, turned) in OF_KIND.into_iter().enumerate() {
+            let console = random.pick(&[0, 10, CONSOLES - 1]);
+            let turns = (1..=MAX_CAPACITY).map(|above| ((above << 8 | console) as u64, turned));
+            let mut totals = [0; TOTALS];
+            totals[KINDS * console + kind] = MAX_CAPACITY as u16;
+            assert_counted(random, &turns.collect::<Vec<_>>(), &totals);
+        }
     });
 }
 
@@ -236,7 +336,7 @@ fn turns_and_drains_of_any_settings_and_values_leave_the_same_tables() {
         let n = random_tables::capacity(random).min(16);
         let held = random_tables::held_count(random, n);
         let tables = random_tables::in_form(random, n, held);
-        drain(Both::new(n, tables), reached);
+        drain(random, Both::new(n, tables), reached);
     });
     for turned in [Turned::Ran, Turned::Stood, Turned::Cleared] {
         let event = Event::Turn(TurnEvent::Answered(turned));
@@ -253,7 +353,7 @@ fn full_lists_are_replaced() {
             tables.status[place] = random.pick(&[1, 2]);
             tables.withdrawn[place] = random.pick(&[0, 0, 1]);
         }
-        drain(Both::new(4, tables), reached);
+        drain(random, Both::new(4, tables), reached);
     });
     for event in [
         TurnEvent::RanAgain,

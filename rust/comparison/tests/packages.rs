@@ -4,6 +4,7 @@ use comparison::both::Both;
 use comparison::generate::packages::{self, Breach};
 use comparison::generate::Random;
 use comparison::seeds::{count_reached, with_seeds};
+use outside::checker::TOTALS;
 use outside::package::{
     entries, lay_out, Entry, ALREADY_HELD, ANSWERS, DONE, ENTRY_BYTES, MAX_BYTES, MAX_ENTRIES,
 };
@@ -87,7 +88,7 @@ fn random_packages_have_the_same_answers() {
                 }
             }
             if random.below(3) == 0 {
-                assert!(both.drain().is_ok());
+                assert!(both.drain(&mut [0; TOTALS]).is_ok());
             }
         }
     });

@@ -3,9 +3,10 @@
 use comparison::both::{Both, Query};
 use comparison::generate::packages;
 use comparison::generate::tables::{self as random_tables, Breach, List, Table};
-use comparison::generate::{self, Random, Style};
+use comparison::generate::{self, Random, Style, REFUSED_TOTALS};
 use comparison::packages_out::Size;
 use comparison::seeds::with_seeds;
+use outside::checker::TOTALS;
 use outside::package::{entries, lay_out, Entry, ANSWERS, MAX_BYTES, MAX_ENTRIES};
 use outside::program::{self, op, INSTRUCTION_BYTES, MAX_INSTRUCTIONS, SETTINGS};
 use outside::tables::{check_lengths, in_form, Tables, INFINITY, PROGRAM_BYTES};
@@ -100,8 +101,9 @@ struct Input {
     program: Vec<u8>,
     package: Vec<u8>,
     setting: usize,
-    /// The lengths of the slices that a package's answers, a package out and a plain run's settings
-    /// are written to.
+    /// The lengths of the slices that a drain's totals, a package's answers, a package out and a
+    /// plain run's settings are written to.
+    totals: usize,
     answers: usize,
     room: usize,
     settings: usize,
@@ -137,6 +139,7 @@ impl Input {
             tables,
             timestamp,
             setting: random.below(SETTINGS),
+            totals: TOTALS,
             answers: ANSWERS,
             settings: SETTINGS,
         };
@@ -149,6 +152,9 @@ impl Input {
     /// Has the input meet a refusal that is not about what the tables hold.
     fn change(&mut self, random: &mut Random, refusal: u8) {
         match (refusal, self.call) {
+            (1, Call::Drain) if random.below(2) == 0 => {
+                self.totals = random.pick(&REFUSED_TOTALS);
+            }
             (1, Call::TakeInPackage) if random.below(2) == 0 => self.answers -= 1,
             (1, Call::PlainRun) if random.below(2) == 0 => self.settings += 1,
             (1, _) => {
@@ -190,6 +196,7 @@ impl Input {
         let met = |refusal: u8| match refusal {
             1 => {
                 !check_lengths(self.n, &self.tables)
+                    || self.totals != TOTALS
                     || self.answers != ANSWERS
                     || self.settings != SETTINGS
             }
@@ -235,7 +242,10 @@ impl Input {
                 both.take_in_package(&self.package, &mut answers).err()
             }
             Call::Turn => both.turn().err(),
-            Call::Drain => both.drain().err(),
+            Call::Drain => {
+                let mut totals = generate::totals(random, self.totals);
+                both.drain(&mut totals).err()
+            }
             Call::CurrentValue => both.ask(Query::CurrentValue(setting)).err(),
             Call::ValueAsOf => both.ask(Query::ValueAsOf(timestamp, setting)).err(),
             Call::Standing => both.ask(Query::Standing(timestamp)).err(),

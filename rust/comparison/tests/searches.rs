@@ -8,6 +8,7 @@ use comparison::generate::Random;
 use comparison::proved::searches::{search, search_lent, Searched};
 use comparison::reached::Reached;
 use comparison::seeds::{count_reached, with_seeds};
+use outside::checker::TOTALS;
 use outside::intake::Taken;
 use outside::program::{Access, SETTINGS};
 use outside::start::start_value;
@@ -499,11 +500,11 @@ fn drained(random: &mut Random, source: &mut Source, n: usize) -> Both {
         let (timestamp, program) = change.expect("there are timestamps left");
         assert_eq!(both.take_in(timestamp, &program), Ok(Taken::Done));
         if random.below(8) == 0 {
-            assert!(both.drain().is_ok());
+            assert!(both.drain(&mut [0; TOTALS]).is_ok());
             assert_eq!(both.withdraw(timestamp), Ok(()));
         }
     }
-    assert!(both.drain().is_ok());
+    assert!(both.drain(&mut [0; TOTALS]).is_ok());
     both
 }
 

@@ -3,12 +3,13 @@
 
 use comparison::both::{Answer, Both, Query};
 use comparison::generate::tables::{self as random_tables, Breach, Table};
-use comparison::generate::{packages, Random};
+use comparison::generate::{self, packages, Random};
 use comparison::packages_out::{self, PackageEvent};
 use comparison::proved::calls as proved;
 use comparison::reached::Reached;
 use comparison::seeds::{count_reached, with_seeds};
 use outside::calls::Refusal;
+use outside::checker::TOTALS;
 use outside::package::{ANSWERS, MAX_BYTES};
 use outside::program::{self, SETTINGS};
 use outside::start::{settings_at_start, start_value};
@@ -501,6 +502,10 @@ fn every_wrong_length_is_refused() {
                     let mut answers = packages::answers(random, length);
                     let taken = both.take_in_package(&[0, 0], &mut answers);
                     assert_eq!(taken, Err(1));
+                }
+                for length in [0, 4, TOTALS - 1, TOTALS + 1, 65_536 + TOTALS] {
+                    let mut totals = generate::totals(random, length);
+                    assert_eq!(both.drain(&mut totals), Err(1));
                 }
             }
         }

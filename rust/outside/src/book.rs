@@ -1,11 +1,11 @@
 //! Demand 3: the book, the fresh run, and what is claimed of the tables and of the turns after a
 //! drain.
 //!
-//! Document 01, "Demand 3 spelled out", and document 02, R-2. Nothing here uses the Checker: it looks
-//! at calls as they were made and answered, by whatever implementation, and at the tables that they
-//! left.
+//! Document 01, "Demand 3 spelled out", and document 02, R-2 and R-5. Nothing here uses the Checker:
+//! it looks at calls as they were made and answered, by whatever implementation, and at the tables
+//! that they left.
 
-use crate::checker::{Totals, Turn, Turned};
+use crate::checker::{Turn, Turned, CONSOLES, KINDS, TOTALS};
 use crate::package::{entries, Entry, DONE};
 use crate::program::{self, Access, SETTINGS};
 use crate::start::settings_at_start;
@@ -35,8 +35,9 @@ pub enum Call {
     },
     /// None where it is idle or refused.
     Turn(Option<LoggedTurn>),
-    /// None where it is refused. A drain does not tell its turns: [`turns_of_drain`] finds them.
-    Drain(Option<(Totals, Vec<LoggedTurn>)>),
+    /// The lent totals after the call, and the turns; none where it is refused. A drain does not tell
+    /// its turns: [`turns_of_drain`] finds them.
+    Drain(Option<(Vec<u16>, Vec<LoggedTurn>)>),
 }
 
 /// A turn, and the read list with the seen values that the tables have for its change after it.
@@ -78,9 +79,15 @@ pub enum Breach {
     Writes(u64),
     /// "each of the 1,024 entries of the view is that setting at the fresh run's end": a setting.
     View(usize),
-    /// A drain "returns how many ran, stood and were cleared", and "faulted as a fourth total, no
-    /// longer within ran" (document 02, R-2).
-    Totals,
+    /// "A drain fills a lent slice of 1,024 16-bit totals" (document 02, R-5): the lent slice has
+    /// another length, and the drain is answered.
+    Length,
+    /// "For each kind the 256 numbers sum to the number of turns of that kind in the drain."
+    /// (document 02, R-5): the number of a kind.
+    Sum(usize),
+    /// There are "four per console (ran, stood, cleared, faulted, from place console × 4), by the
+    /// lowest 8 bits of the timestamp" (document 02, R-5): the place of a total.
+    Total(usize),
     /// A turn of the last drain names a timestamp that is not in the book.
     NotBooked(u64),
     /// A change has two turns in the last drain.
@@ -101,7 +108,9 @@ pub fn check(calls: &[Call], tables: &Tables) -> Result<(), Breach> {
     };
     let fresh = Book::of(calls).fresh_run();
     fresh.check_tables(tables)?;
-    check_totals(*totals, turns)?;
+    let totals = totals.as_slice().try_into().or(Err(Breach::Length))?;
+    check_sums(totals, turns)?;
+    check_totals(totals, turns)?;
     check_one_turn_each(turns, &fresh)?;
     check_none_in_vain(earlier, turns, &fresh)?;
     check_faults_shown(calls, &fresh)
@@ -249,15 +258,32 @@ impl FreshRun {
     }
 }
 
-fn check_totals(totals: Totals, turns: &[LoggedTurn]) -> Result<(), Breach> {
-    let mut counted = Totals::default();
-    for logged in turns {
-        counted.count(logged.turn.turned);
+fn check_sums(totals: &[u16; TOTALS], turns: &[LoggedTurn]) -> Result<(), Breach> {
+    for kind in 0..KINDS {
+        let numbers = (0..CONSOLES).map(|console| totals[KINDS * console + kind]);
+        let sum: usize = numbers.map(usize::from).sum();
+        let of_kind = turns
+            .iter()
+            .filter(|logged| logged.turn.turned.kind() == kind);
+        if sum != of_kind.count() {
+            return Err(Breach::Sum(kind));
+        }
     }
-    match totals == counted {
-        true => Ok(()),
-        false => Err(Breach::Totals),
+    Ok(())
+}
+
+fn check_totals(totals: &[u16; TOTALS], turns: &[LoggedTurn]) -> Result<(), Breach> {
+    for (place, &total) in totals.iter().enumerate() {
+        let (console, kind) = (place / KINDS, place % KINDS);
+        let counted = turns
+            .iter()
+            .map(|logged| logged.turn)
+            .filter(|turn| turn.console() == console && turn.turned.kind() == kind);
+        if usize::from(total) != counted.count() {
+            return Err(Breach::Total(place));
+        }
     }
+    Ok(())
 }
 
 fn check_one_turn_each(turns: &[LoggedTurn], fresh: &FreshRun) -> Result<(), Breach> {

@@ -1,13 +1,22 @@
 //! The Checker: the calls turn and drain.
 //!
 //! Figure 1 of source document 004, whose names and comments stand in the code, with what document
-//! 01, "A turn", and document 02, R-2, add.
+//! 01, "A turn", and document 02, R-2 and R-5, add.
 
-use crate::calls::{check, Refusal};
+use crate::calls::{check, refuse_unless, Refusal};
 use crate::program::{self, Access, Outcome, SETTINGS};
 use crate::start::{settings_at_start, start_value};
 use crate::tables::{Status, Tables, INFINITY};
 use std::collections::{BTreeMap, BTreeSet};
+
+/// How many consoles there are. Of a timestamp: "Its lowest 8 bits name the console."
+pub const CONSOLES: usize = 256;
+
+/// How many kinds of turns there are: "ran, stood, cleared, faulted" (document 02, R-5).
+pub const KINDS: usize = 4;
+
+/// "A drain fills a lent slice of 1,024 16-bit totals, four per console" (document 02, R-5).
+pub const TOTALS: usize = 1_024;
 
 /// What a turn did with its change.
 #[derive(Clone, Copy, Debug, PartialEq, Eq, PartialOrd, Ord)]
@@ -37,6 +46,17 @@ impl Turned {
     pub fn is_run(self) -> bool {
         matches!(self, Self::Ran | Self::Faulted(_))
     }
+
+    /// The number of its kind, in the order of "ran, stood, cleared, faulted" (document 02, R-5).
+    /// Faulted is "no longer within ran" (document 02, R-2).
+    pub fn kind(self) -> usize {
+        match self {
+            Self::Ran => 0,
+            Self::Stood => 1,
+            Self::Cleared => 2,
+            Self::Faulted(_) => 3,
+        }
+    }
 }
 
 /// A turn's answer, where it is neither idle nor refused: it "also names that change's timestamp".
@@ -47,26 +67,16 @@ pub struct Turn {
     pub turned: Turned,
 }
 
-/// A drain's answer: "how many ran, stood and were cleared", and "faulted as a fourth total, no
-/// longer within ran" (document 02, R-2).
-#[derive(Clone, Copy, Debug, Default, PartialEq, Eq)]
-#[allow(missing_docs)]
-pub struct Totals {
-    pub ran: u64,
-    pub stood: u64,
-    pub cleared: u64,
-    pub faulted: u64,
-}
+impl Turn {
+    /// The console of its change, "by the lowest 8 bits of the timestamp" (document 02, R-5).
+    pub fn console(self) -> usize {
+        (self.timestamp % CONSOLES as u64) as usize
+    }
 
-impl Totals {
-    /// Counts a turn.
-    pub fn count(&mut self, turned: Turned) {
-        *match turned {
-            Turned::Ran => &mut self.ran,
-            Turned::Stood => &mut self.stood,
-            Turned::Cleared => &mut self.cleared,
-            Turned::Faulted(_) => &mut self.faulted,
-        } += 1;
+    /// The place of the total that counts it: there are "four per console (ran, stood, cleared,
+    /// faulted, from place console × 4)" (document 02, R-5).
+    pub fn total_place(self) -> usize {
+        KINDS * self.console() + self.turned.kind()
     }
 }
 
@@ -79,17 +89,19 @@ pub fn turn(n: usize, tables: &mut Tables) -> Result<Option<Turn>, Refusal> {
     Ok(turn)
 }
 
-/// "A drain makes turns until idle and returns how many ran, stood and were cleared." And it "returns
-/// faulted as a fourth total" (document 02, R-2).
-pub fn drain(n: usize, tables: &mut Tables) -> Result<Totals, Refusal> {
+/// "A drain makes turns until idle". It "fills a lent slice of 1,024 16-bit totals [..]. It replaces
+/// the common totals." (document 02, R-5) What the slice held does not count. Document 01 refuses one
+/// that "has another length than stated".
+pub fn drain(n: usize, tables: &mut Tables, totals: &mut [u16]) -> Result<(), Refusal> {
+    refuse_unless(totals.len() == TOTALS, Refusal::Length)?;
     check(n, tables)?;
     let mut history = History::of(tables);
-    let mut totals = Totals::default();
+    totals.fill(0);
     while let Some(turn) = history.turn() {
-        totals.count(turn.turned);
+        totals[turn.total_place()] += 1;
     }
     history.store(tables);
-    Ok(totals)
+    Ok(())
 }
 
 /// A change, as source document 004 speaks of it.

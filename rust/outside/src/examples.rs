@@ -2,7 +2,7 @@
 
 use crate::book::{self, turns_of_drain, Breach, Call, LoggedTurn};
 use crate::calls::Refusal;
-use crate::checker::{drain, turn, Turned};
+use crate::checker::{drain, turn, Turned, TOTALS};
 use crate::intake::{take_in, withdraw, Taken};
 use crate::package::{
     package_out, take_in_package, ALREADY_HELD, ANSWERS, DONE, ENTRY_BYTES, MAX_BYTES,
@@ -196,7 +196,8 @@ impl Script {
         });
         let answers = turns.iter().map(|logged| logged.turn);
         let answers = answers.map(|turn| (turn.timestamp, turn.turned)).collect();
-        let totals = drain(self.n, &mut self.tables).expect("the tables are in form");
+        let mut totals = vec![u16::MAX; TOTALS];
+        drain(self.n, &mut self.tables, &mut totals).expect("the tables are in form");
         assert!(self.tables == turned, "its turns are single turns");
         self.calls.push(Call::Drain(Some((totals, turns))));
         assert_eq!(self.check(), Ok(()));
@@ -226,6 +227,12 @@ pub fn moved(settings: &[i32]) -> Vec<(usize, i32)> {
     let settings = settings.iter().copied().enumerate();
     let moved = settings.filter(|&(setting, value)| value != start_value(setting));
     moved.collect()
+}
+
+/// The totals that are not 0, by place.
+pub fn not_zero(totals: &[u16]) -> Vec<(usize, u16)> {
+    let totals = totals.iter().copied().enumerate();
+    totals.filter(|&(_, total)| total != 0).collect()
 }
 
 /// The package whose entries have these timestamps, kinds and bodies.

@@ -40,7 +40,7 @@ fn take(power: i32) -> Vec<u8> {
 
 /// Drains, prints and returns the power left and the alarm.
 fn show(cabinet: &mut Cabinet, story: &str) -> Result<(i32, i32), Refusal> {
-    let totals = cabinet.drain()?;
+    let totals = cabinet.drain()?.sum();
     let left = cabinet.current_value(POWER_LEFT)?;
     let alarm = cabinet.current_value(POWER_ALARM)?;
     println!("{story}: {totals}; power left {left}, alarm {alarm}");

@@ -1,5 +1,7 @@
 //! What the calls answer.
 
+use crate::calls::TOTALS;
+use std::cmp::Reverse;
 use std::error::Error;
 use std::fmt;
 
@@ -133,7 +135,7 @@ impl fmt::Display for Turned {
     }
 }
 
-/// How many turns of a drain ran, stood, were cleared and faulted.
+/// How many turns of a drain ran, stood, were cleared and faulted: all, or those of one console.
 #[derive(Clone, Copy, Debug, Default, PartialEq, Eq, PartialOrd, Ord, Hash)]
 #[allow(missing_docs)]
 pub struct Totals {
@@ -155,6 +157,122 @@ impl fmt::Display for Totals {
             f,
             "{ran} ran, {stood} stood, {cleared} cleared, {faulted} faulted"
         )
+    }
+}
+
+/// The console that a timestamp names: its lowest 8 bits.
+///
+/// ```
+/// use tolbezun::console;
+///
+/// assert_eq!(console(10), 10);
+/// assert_eq!(console(0x0501), 1);
+/// ```
+pub const fn console(timestamp: u64) -> u8 {
+    let [console, ..] = timestamp.to_le_bytes();
+    console
+}
+
+/// How many turns of a drain ran, stood, were cleared and faulted, for each console: the 1,024
+/// totals of document 02, R-5. A turn counts for the console that its change's timestamp names
+/// ([`console`]). For each kind the 256 numbers sum to the number of turns of that kind.
+///
+/// They show which console's changes keep rerunning. A total does not tell a first run from a later
+/// one, so where they are printed the console with the most runs comes first, those that faulted
+/// with those that ran; where these are equal the lower console. Consoles without turns are left
+/// out.
+///
+/// ```
+/// use tolbezun::{calls::TOTALS, TotalsByConsole};
+///
+/// // Ran, stood, cleared and faulted, from place console × 4.
+/// let mut totals = [0; TOTALS];
+/// totals[4 * 80..][..4].copy_from_slice(&[2, 1, 0, 0]);
+/// totals[4 * 83..][..4].copy_from_slice(&[12, 0, 0, 1]);
+/// let expected = "\
+/// console    ran  stood  cleared  faulted
+///      83     12      0        0        1
+///      80      2      1        0        0
+///     all     14      1        0        1";
+/// assert_eq!(TotalsByConsole::from(totals).to_string(), expected);
+/// assert_eq!(TotalsByConsole::from([0; TOTALS]).to_string(), "no turns");
+/// ```
+#[derive(Clone, PartialEq, Eq, Hash)]
+pub struct TotalsByConsole([u16; TOTALS]);
+
+impl From<[u16; TOTALS]> for TotalsByConsole {
+    /// The totals that [`calls::drain`](crate::calls::drain) has filled: four for each console, from
+    /// place console × 4.
+    fn from(totals: [u16; TOTALS]) -> Self {
+        Self(totals)
+    }
+}
+
+impl TotalsByConsole {
+    /// The turns of one console's changes.
+    pub fn of(&self, console: u8) -> Totals {
+        let (consoles, _) = self.0.as_chunks();
+        let [ran, stood, cleared, faulted] = consoles[usize::from(console)].map(u64::from);
+        Totals {
+            ran,
+            stood,
+            cleared,
+            faulted,
+        }
+    }
+
+    /// All turns of the drain: for each kind the sum of its 256 numbers.
+    pub fn sum(&self) -> Totals {
+        let mut sum = Totals::default();
+        for (_, totals) in self.consoles() {
+            sum.ran += totals.ran;
+            sum.stood += totals.stood;
+            sum.cleared += totals.cleared;
+            sum.faulted += totals.faulted;
+        }
+        sum
+    }
+
+    /// The consoles whose changes had turns, rising, each with its own.
+    pub fn consoles(&self) -> impl Iterator<Item = (u8, Totals)> + '_ {
+        let all = (0..=u8::MAX).map(|console| (console, self.of(console)));
+        all.filter(|(_, totals)| *totals != Totals::default())
+    }
+}
+
+impl fmt::Display for TotalsByConsole {
+    fn fmt(&self, f: &mut fmt::Formatter<'_>) -> fmt::Result {
+        let mut consoles: Vec<_> = self.consoles().collect();
+        if consoles.is_empty() {
+            return f.write_str("no turns");
+        }
+        // Where the runs are equal the lower console stays first.
+        consoles.sort_by_key(|(_, totals)| Reverse(totals.ran + totals.faulted));
+        f.write_str("console    ran  stood  cleared  faulted")?;
+        let lines = consoles
+            .iter()
+            .map(|(console, totals)| (console.to_string(), *totals));
+        for (console, totals) in lines.chain([("all".to_string(), self.sum())]) {
+            let Totals {
+                ran,
+                stood,
+                cleared,
+                faulted,
+            } = totals;
+            write!(
+                f,
+                "\n{console:>7} {ran:>6} {stood:>6} {cleared:>8} {faulted:>8}"
+            )?;
+        }
+        Ok(())
+    }
+}
+
+impl fmt::Debug for TotalsByConsole {
+    /// The consoles whose changes had turns alone.
+    fn fmt(&self, f: &mut fmt::Formatter<'_>) -> fmt::Result {
+        f.write_str("TotalsByConsole ")?;
+        f.debug_map().entries(self.consoles()).finish()
     }
 }
 

@@ -1,7 +1,7 @@
 //! A cabinet: a capacity and the tables for it.
 
-use crate::answers::{Refusal, Standing, Taken, Totals, Turned};
-use crate::calls::{self, ANSWERS, PACKAGE_BYTES};
+use crate::answers::{Refusal, Standing, Taken, TotalsByConsole, Turned};
+use crate::calls::{self, ANSWERS, PACKAGE_BYTES, TOTALS};
 use crate::tables::{Tables, MAX_CAPACITY, SETTINGS};
 
 /// The value that each setting starts at, as a new switch comes up: 1 for the untagged VLAN of each
@@ -92,9 +92,11 @@ impl Cabinet {
         calls::turn(self.capacity, &mut self.tables)
     }
 
-    /// Makes turns until one is idle.
-    pub fn drain(&mut self) -> Result<Totals, Refusal> {
-        calls::drain(self.capacity, &mut self.tables)
+    /// Makes turns until one is idle, and returns how many there were of each kind, for each console.
+    pub fn drain(&mut self) -> Result<TotalsByConsole, Refusal> {
+        let mut totals = [0; TOTALS];
+        calls::drain(self.capacity, &mut self.tables, &mut totals)?;
+        Ok(totals.into())
     }
 
     /// The current value of a setting.

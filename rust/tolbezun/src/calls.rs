@@ -3,7 +3,7 @@
 //! [`Cabinet`](crate::Cabinet) makes them on tables of its own. Each function here says what its
 //! call alters; a refused call alters nothing.
 
-use crate::answers::{Refusal, Standing, Status, Taken, Totals, Turned};
+use crate::answers::{Refusal, Standing, Status, Taken, Turned};
 use crate::library;
 use crate::tables::Tables;
 
@@ -48,6 +48,9 @@ macro_rules! call {
 
 /// The number of answers that a package needs room for.
 pub const ANSWERS: usize = 512;
+
+/// The number of totals that a drain needs room for: four for each of 256 consoles.
+pub const TOTALS: usize = 1_024;
 
 /// The most bytes that a package has.
 pub const PACKAGE_BYTES: usize = 65_535;
@@ -145,20 +148,13 @@ pub fn turn(n: usize, tables: &mut Tables) -> Result<Turned, Refusal> {
     }
 }
 
-/// Makes turns until one is idle: what turns alter.
-pub fn drain(n: usize, tables: &mut Tables) -> Result<Totals, Refusal> {
-    let mut slots = [0; 4];
-    let (totals, length) = (slots.as_mut_ptr(), slots.len());
-    // SAFETY: pointers and lengths are those of distinct vectors and of an array, which may be
-    // written, and nothing more is required.
-    done(unsafe { call!(tolbezun_drain(n, tables.as_mut_ptr(), totals, length)) })?;
-    let [ran, stood, cleared, faulted] = slots;
-    Ok(Totals {
-        ran,
-        stood,
-        cleared,
-        faulted,
-    })
+/// Makes turns until one is idle: what turns alter, and all of the totals, which must be [`TOTALS`].
+/// [`TotalsByConsole`](crate::TotalsByConsole) says what they mean.
+pub fn drain(n: usize, tables: &mut Tables, totals: &mut [u16]) -> Result<(), Refusal> {
+    let (totals, length) = (totals.as_mut_ptr(), totals.len());
+    // SAFETY: pointers and lengths are those of distinct vectors and of a distinct slice, which may
+    // be written, and nothing more is required.
+    done(unsafe { call!(tolbezun_drain(n, tables.as_mut_ptr(), totals, length)) })
 }
 
 /// The current value of a setting, from the view.

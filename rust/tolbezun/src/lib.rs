@@ -27,6 +27,36 @@
 //! 20 is withdrawn: 1 ran, 0 stood, 1 cleared, 0 faulted; power left 100, alarm 0
 //! refused 8: the timestamp is held with another program
 //! ```
+//!
+//! # Which console keeps rerunning
+//!
+//! The lowest 8 bits of a timestamp name the console that made the change. A drain counts its turns
+//! for each console ([`TotalsByConsole`]).
+//!
+//! ```
+#![doc = include_str!("../examples/consoles.rs")]
+//! ```
+//!
+//! It prints
+//!
+//! ```text
+//! four changes
+//! console    ran  stood  cleared  faulted
+//!       2      2      0        0        0
+//!       1      1      0        0        0
+//!       3      1      0        0        0
+//!     all      4      0        0        0
+//! another power for port 2, late
+//! console    ran  stood  cleared  faulted
+//!       2      2      0        0        0
+//!       1      1      0        0        0
+//!     all      3      0        0        0
+//! it is withdrawn
+//! console    ran  stood  cleared  faulted
+//!       2      2      0        0        0
+//!       1      0      0        1        0
+//!     all      2      0        1        0
+//! ```
 
 #![warn(missing_docs)]
 
@@ -38,7 +68,7 @@ mod instruction;
 mod library;
 mod tables;
 
-pub use answers::{Refusal, Standing, Status, Taken, Totals, Turned};
+pub use answers::{console, Refusal, Standing, Status, Taken, Totals, TotalsByConsole, Turned};
 pub use cabinet::{start_values, Cabinet};
 pub use instruction::{program, Instruction};
 pub use tables::{setting, Tables, MAX_CAPACITY, SETTINGS};

@@ -85,7 +85,7 @@ declare! {
 
     fn tolbezun_turn(tables: *mut, values: *mut u64, values_len: usize) -> u8;
 
-    fn tolbezun_drain(tables: *mut, totals: *mut u64, totals_len: usize) -> u8;
+    fn tolbezun_drain(tables: *mut, totals: *mut u16, totals_len: usize) -> u8;
 
     fn tolbezun_current_value(tables: *const, setting: usize) -> i64;
 

@@ -85,9 +85,7 @@ turn 17 77 77 77
 turn 1 1 77 77
 turn 1 18446744073709551614 77 77
 turn 0 78 77 77
-drain 1 77 77 77 77 77
-drain 1 77 77 77 77 77
-drain 0 0 0 0 0 77
+drain 0 0 77
 current_value -5 4294967301 4294967297
 value_as_of -5 0 4294967300
 withdraw 0 11 10
@@ -101,14 +99,20 @@ take_in_package 1 1 3 0: 10 99
 plain_run 1 99 0: 0 -5 99
 start_values 1 1 99 0: 1 0 99
 faulting 0 0 0
-drain 0 1 0 0 1 77
+drain 1 1024 77
+drain 1 1024 77
+drain 1 1024 77
+drain 0 0 0:1 1023:1 77
+drain 0 0 77
 faulting 0 0 0
-turn 4 10 3 77
-turn 1 20 3 77
-turn 0 20 3 77
+turn 4 255 3 77
+turn 1 256 3 77
+turn 0 256 3 77
 withdraw 0
-turn 3 10 3 77
-not in form 2 18 2 65538 65538
+turn 3 255 3 77
+not in form 2 18 65538 65538
+drain 1 1024 77
+drain 2 1024 77
 "
     );
     let edges = Path::new(env!("CARGO_MANIFEST_DIR")).join("tests/edges.c");

@@ -32,7 +32,7 @@ static const uint8_t twice[] = {1, 0, 0, 0, 0xFB, 0xFF, 0xFF, 0xFF, 13, 0, 0, 0,
 static const uint8_t package[] = {1, 0, 15, 0, 0, 0, 0, 0, 0, 0, 1, 0, 0, 0};
 
 static uint64_t values[3] = {77, 77, 77};
-static uint64_t totals[5] = {77, 77, 77, 77, 77};
+static uint16_t totals[1025];
 static uint8_t answers[513];
 static int32_t settings[1025];
 static uint8_t written[57];
@@ -43,11 +43,21 @@ static void turn(size_t entries)
     printf("turn %d %" PRIu64 " %" PRIu64 " %" PRIu64 "\n", answer, values[0], values[1], values[2]);
 }
 
+/* Lends so many totals, of 1,025 that are all 77. Of the first 1,024 it prints how many still are and,
+ * by their places, the others that are not 0; then the last. */
 static void drain(size_t entries)
 {
-    int answer = tolbezun_drain(TABLES, totals, entries);
-    printf("drain %d %" PRIu64 " %" PRIu64 " %" PRIu64, answer, totals[0], totals[1], totals[2]);
-    printf(" %" PRIu64 " %" PRIu64 "\n", totals[3], totals[4]);
+    size_t kept = 0;
+    for (size_t i = 0; i < 1025; i++)
+        totals[i] = 77;
+    printf("drain %d", tolbezun_drain(TABLES, totals, entries));
+    for (size_t i = 0; i < 1024; i++)
+        kept += totals[i] == 77;
+    printf(" %zu", kept);
+    for (size_t i = 0; i < 1024; i++)
+        if (totals[i] != 77 && totals[i] != 0)
+            printf(" %zu:%" PRIu16, i, totals[i]);
+    printf(" %" PRIu16 "\n", totals[1024]);
 }
 
 /* Lends so many bytes, of 57 that are all 99. */
@@ -60,12 +70,12 @@ static void package_out(size_t bytes)
     printf("\n");
 }
 
-/* Sets up, and takes in a change that faults and one that does not. */
+/* Sets up, and takes in a change that faults, of console 255, and one that does not, of console 0. */
 static void take_in_faulting(void)
 {
     printf("faulting %d", tolbezun_set_up(TABLES));
-    printf(" %d", tolbezun_take_in(TABLES, 10, twice, sizeof twice));
-    printf(" %d\n", tolbezun_take_in(TABLES, 20, change, sizeof change));
+    printf(" %d", tolbezun_take_in(TABLES, 255, twice, sizeof twice));
+    printf(" %d\n", tolbezun_take_in(TABLES, 256, change, sizeof change));
 }
 
 int main(void)
@@ -87,9 +97,7 @@ int main(void)
     turn(2);
     values[0] = 78;
     turn(2);
-    drain(3);
-    drain(5);
-    drain(4);
+    drain(1024);
     printf("current_value %" PRId64 " %" PRId64 " %" PRId64 "\n", tolbezun_current_value(TABLES, 1023),
            tolbezun_current_value(TABLES, 1024), tolbezun_current_value(LENT(3), 0));
     printf("value_as_of %" PRId64 " %" PRId64 " %" PRId64 "\n", tolbezun_value_as_of(TABLES, UINT64_MAX, 1023),
@@ -123,17 +131,22 @@ int main(void)
     printf(": %" PRId32 " %" PRId32 " %" PRId32 "\n", settings[2], settings[3], settings[1024]);
     take_in_faulting();
     drain(4);
+    drain(1023);
+    drain(1025);
+    drain(1024);
+    drain(1024);
     take_in_faulting();
     turn(2);
     turn(2);
     turn(2);
-    printf("withdraw %d\n", tolbezun_withdraw(TABLES, 10));
+    printf("withdraw %d\n", tolbezun_withdraw(TABLES, 255));
     turn(2);
     status[0] = 3;
     printf("not in form %d", tolbezun_withdraw(TABLES, 1));
     printf(" %d", tolbezun_turn(TABLES, values, 2));
-    printf(" %d", tolbezun_drain(TABLES, totals, 4));
     printf(" %" PRIu32, tolbezun_standing(TABLES, 1));
     printf(" %" PRIu32 "\n", tolbezun_package_out(TABLES, written, sizeof written));
+    drain(1023);
+    drain(1024);
     return 0;
 }

@@ -6,22 +6,22 @@ use lib.IntN.{ℤ, pos}
 use lib.ListN.{length-replicate}
 use Rattle.model.proofs.Form.{facts}
 use Rattle.model.specs.Tables.{tables}
-use Rattle.drains.proofs.Drains.{totals-small}
+use Rattle.drains.proofs.Drains.{zeros-size, totals-small}
 use Rattle.drains.proofs.Pass.{Passing, writes-below, uses-above, pass-begins, pass-next, pass-ends}
 use Rattle.drains.proofs.turn_from.Statement.{statement}
 use Rattle.drains.proofs.turn_from.Tie as tie
 
 abbrev Inv-loop : tie.InvT-loop
-Inv-loop first held timestamps order status₀ withdrawn lengths programs reads₀ writes₀ sources₀ seen₀ targets₀ written₀ view₀ count before₀ after₀ known₀ readers₀ writers₀ settled₀ totals₀ k₀ status reads writes sources seen targets written view before after known readers writers settled totals k =
+Inv-loop first held timestamps order status₀ withdrawn lengths programs reads₀ writes₀ sources₀ seen₀ targets₀ written₀ view₀ totals₀ count before₀ after₀ known₀ readers₀ writers₀ settled₀ k₀ status reads writes sources seen targets written view totals before after known readers writers settled k =
     Passing (tables held timestamps order status₀ withdrawn lengths programs reads₀ writes₀ sources₀ seen₀ targets₀ written₀ view₀) (tables held timestamps order status withdrawn lengths programs reads writes sources seen targets written view) totals k known before after readers writers settled
 
 abbrev μ-loop : tie.MeasureT-loop
-μ-loop first held timestamps order status₀ withdrawn lengths programs reads₀ writes₀ sources₀ seen₀ targets₀ written₀ view₀ count before₀ after₀ known₀ readers₀ writers₀ settled₀ totals₀ k₀ status reads writes sources seen targets written view before after known readers writers settled totals k =
+μ-loop first held timestamps order status₀ withdrawn lengths programs reads₀ writes₀ sources₀ seen₀ targets₀ written₀ view₀ totals₀ count before₀ after₀ known₀ readers₀ writers₀ settled₀ k₀ status reads writes sources seen targets written view totals before after known readers writers settled k =
     count - k
 
 -- from a call, or the loop, to what stood before it
 abbrev before-fill-start : tie.After-fill-start Inv-loop μ-loop → tie.Start Inv-loop μ-loop
-before-fill-start c = c .before .before .before .before .before .before .before .before .before .before .before .before .before .before
+before-fill-start c = c .before .before .before .before .before .before .before .before .before .before .before .before .before .before .before
 
 abbrev before-fill-start2 : tie.After-fill-start2 Inv-loop μ-loop → tie.After-fill-start Inv-loop μ-loop
 before-fill-start2 c = c .before .before .before
@@ -70,7 +70,7 @@ loop-holds c =
     let at-fill-start2 = before-carry-below at-carry-below in
     let at-fill-start = before-fill-start2 at-fill-start2 in
     let start = before-fill-start at-fill-start in
-    pass-begins (start .pre .0) (start .pre .1) (at-fill-start .fill-start .ensures) (at-fill-start2 .fill-start2 .ensures) (at-carry-below .carry-below .ensures) (c .last-uses .ensures)
+    pass-begins (start .pre .0) (start .pre .1) (start .pre .2) (at-fill-start .fill-start .ensures) (at-fill-start2 .fill-start2 .ensures) (at-carry-below .carry-below .ensures) (c .last-uses .ensures)
 
 pass-at-requires : tie.Need-pass-at-requires Inv-loop μ-loop
 pass-at-requires c κs =
@@ -78,9 +78,9 @@ pass-at-requires c κs =
     let at-loop = before-in-loop at-in-loop in
     (at-in-loop .loop-test .taken, at-loop .loop .inv .going)
 
-counted-requires : tie.Need-counted-requires Inv-loop μ-loop
-counted-requires c κs =
-    let at-pass-at = c .before .before .before .before .before .before .before .before .before .before .before .before .before in
+count-turn-requires : tie.Need-count-turn-requires Inv-loop μ-loop
+count-turn-requires c κs =
+    let at-pass-at = c .before .before .before .before .before .before .before .before .before .before .before .before .before .before in
     let at-in-loop = before-pass-at at-pass-at in
     let at-loop = before-in-loop at-in-loop in
     let at-last-uses = before-loop at-loop in
@@ -92,10 +92,10 @@ counted-requires c κs =
 
 loop-again : tie.Need-loop-again Inv-loop μ-loop
 loop-again c =
-    let at-pass-at = c .before .before .before .before .before .before .before .before .before .before .before .before .before .before in
+    let at-pass-at = c .before .before .before .before .before .before .before .before .before .before .before .before .before .before .before .before .before in
     let at-in-loop = before-pass-at at-pass-at in
     let at-loop = before-in-loop at-in-loop in
-    pass-next (at-loop .loop .inv) (at-in-loop .loop-test .taken) (at-pass-at .pass-at .ensures) (c .counted .ensures)
+    pass-next (at-loop .loop .inv) (at-in-loop .loop-test .taken) (at-pass-at .pass-at .ensures) (c .before .before .count-turn .ensures)
 
 returns : tie.Need-returns Inv-loop μ-loop
 returns c =
@@ -108,7 +108,7 @@ turn-from-spec =
     (tie.spec
     Inv-loop
     μ-loop
-    (λ c. omega (arith, facts (c .before .before .before .before .before .before .before .before .before .before .before .before .pre .0) .sizes .held))
+    (λ c. omega (arith, facts (c .before .before .before .before .before .before .before .before .before .before .before .before .before .pre .0) .sizes .held))
     (λ c. omega (arith, c .shared-slice-known7 .given 0))
     (λ c. sym (length-replicate {A = ℤ} 1024 (pos 0)))
     fill-start-requires
@@ -118,9 +118,9 @@ turn-from-spec =
     last-uses-requires
     loop-holds
     pass-at-requires
-    counted-requires
-    (λ c. omega (arith, (before-pass-at (c .before .before .before .before .before .before .before .before .before .before .before .before .before .before)) .loop-test .taken, uses-above ((before-fill-start (before-fill-start2 (before-carry-below (before-last-uses (before-loop (before-in-loop (before-pass-at (c .before .before .before .before .before .before .before .before .before .before .before .before .before .before)))))))) .pre .0) ((before-fill-start (before-fill-start2 (before-carry-below (before-last-uses (before-loop (before-in-loop (before-pass-at (c .before .before .before .before .before .before .before .before .before .before .before .before .before .before)))))))) .pre .1) .1))
-    (λ c. omega (arith, (before-pass-at (c .before .before .before .before .before .before .before .before .before .before .before .before .before .before)) .loop-test .taken))
+    count-turn-requires
+    (λ c. omega (arith, (before-pass-at (c .before .before .before .before .before .before .before .before .before .before .before .before .before .before .before .before .before)) .loop-test .taken, uses-above ((before-fill-start (before-fill-start2 (before-carry-below (before-last-uses (before-loop (before-in-loop (before-pass-at (c .before .before .before .before .before .before .before .before .before .before .before .before .before .before .before .before .before)))))))) .pre .0) ((before-fill-start (before-fill-start2 (before-carry-below (before-last-uses (before-loop (before-in-loop (before-pass-at (c .before .before .before .before .before .before .before .before .before .before .before .before .before .before .before .before .before)))))))) .pre .1) .1))
+    (λ c. omega (arith, (before-pass-at (c .before .before .before .before .before .before .before .before .before .before .before .before .before .before .before .before .before)) .loop-test .taken))
     loop-again
     (λ c. facts (c .before .loop .inv .drains .formed) .sizes .status ∙ sym (facts ((before-fill-start (before-fill-start2 (before-carry-below (before-last-uses (before-loop (c .before)))))) .pre .0) .sizes .status))
     (λ c. facts (c .before .loop .inv .drains .formed) .sizes .reads ∙ sym (facts ((before-fill-start (before-fill-start2 (before-carry-below (before-last-uses (before-loop (c .before)))))) .pre .0) .sizes .reads))
@@ -130,4 +130,5 @@ turn-from-spec =
     (λ c. facts (c .before .loop .inv .drains .formed) .sizes .targets ∙ sym (facts ((before-fill-start (before-fill-start2 (before-carry-below (before-last-uses (before-loop (c .before)))))) .pre .0) .sizes .targets))
     (λ c. facts (c .before .loop .inv .drains .formed) .sizes .written ∙ sym (facts ((before-fill-start (before-fill-start2 (before-carry-below (before-last-uses (before-loop (c .before)))))) .pre .0) .sizes .written))
     (λ c. facts (c .before .loop .inv .drains .formed) .sizes .view ∙ sym (facts ((before-fill-start (before-fill-start2 (before-carry-below (before-last-uses (before-loop (c .before)))))) .pre .0) .sizes .view))
+    (λ c. c .before .loop .inv .drains .size ∙ sym (zeros-size ((before-fill-start (before-fill-start2 (before-carry-below (before-last-uses (before-loop (c .before)))))) .pre .2)))
     returns)

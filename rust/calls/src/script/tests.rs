@@ -24,7 +24,16 @@ fn every_kind_of_line_is_read() {
     );
     assert_read("withdraw 20", Call::Withdraw { timestamp: 20 });
     assert_read("turn", Call::Turn);
-    assert_read("drain", Call::Drain);
+    assert_read("drain", Call::Drain { totals: None });
+    for (line, length) in [
+        ("drain len0", 0),
+        ("drain len1023", 1_023),
+        ("drain len01024", 1_024),
+        ("drain len18446744073709551615", usize::MAX),
+    ] {
+        let totals = Some(length);
+        assert_read(line, Call::Drain { totals });
+    }
     assert_read("current 34", Call::CurrentValue { setting: 34 });
     assert_read(
         "value_as_of 15 34",
@@ -186,7 +195,7 @@ fn a_word_may_be_too_many() {
         "take_in 20 - x",
         "withdraw 20 x",
         "turn x",
-        "drain x",
+        "drain len5 x",
         "current 34 x",
         "value_as_of 15 34 x",
         "standing 20 x",
@@ -241,8 +250,10 @@ fn numbers_may_be_too_large() {
     let word = "18446744073709551616";
     let error = |argument| Error::TooLarge(argument, word.to_string());
     assert_numbers_refused(word, error);
-    let line = format!("take_in_package 0000 len{word}");
-    assert_eq!(read(line.as_bytes()), Err(error("the L of lenL")));
+    for call in ["drain", "take_in_package 0000"] {
+        let line = format!("{call} len{word}");
+        assert_eq!(read(line.as_bytes()), Err(error("the L of lenL")));
+    }
     assert_eq!(
         message(&format!("current {word}")),
         r#"S is too large: "18446744073709551616""#
@@ -280,19 +291,22 @@ fn bytes_are_whole_and_hexadecimal() {
 
 #[test]
 fn a_length_is_len_and_a_number() {
-    for word in ["512", "LEN512", "lem5", "le", "-"] {
-        let line = format!("take_in_package 0000 {word}");
-        let error = Error::NotALength(word.to_string());
-        assert_eq!(read(line.as_bytes()), Err(error), "{line:?}");
+    for call in ["drain", "take_in_package 0000"] {
+        for word in ["512", "LEN512", "lem5", "le", "-"] {
+            let line = format!("{call} {word}");
+            let error = Error::NotALength(word.to_string());
+            assert_eq!(read(line.as_bytes()), Err(error), "{line:?}");
+        }
+        for length in ["", "-1", "+5", "5x", "gth"] {
+            let line = format!("{call} len{length}");
+            let error = Error::NotANumber("the L of lenL", length.to_string());
+            assert_eq!(read(line.as_bytes()), Err(error), "{line:?}");
+        }
+        // The length is a word of its own.
+        let line = format!("{call} len 5");
+        let error = Err(Error::NotANumber("the L of lenL", String::new()));
+        assert_eq!(read(line.as_bytes()), error);
     }
-    for length in ["", "-1", "+5", "5x", "gth"] {
-        let line = format!("take_in_package 0000 len{length}");
-        let error = Error::NotANumber("the L of lenL", length.to_string());
-        assert_eq!(read(line.as_bytes()), Err(error), "{line:?}");
-    }
-    // The length is a word of its own.
-    let error = Err(Error::NotANumber("the L of lenL", String::new()));
-    assert_eq!(read(b"take_in_package 0000 len 5"), error);
     assert_eq!(
         message("take_in_package 0000 512"),
         r#"lenL is not len and a length: "512""#

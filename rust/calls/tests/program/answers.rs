@@ -34,7 +34,7 @@ fn every_form_of_answer() {
             ("turn", "ran 5"),
             ("turn", "idle"),
             (&take_in(30, copy(34, 50)), "done"),
-            ("drain", "totals 1 0 0 0"),
+            ("drain", r#"done by console {"120": 1}"#),
             (&take_in(10, set(34, 7)), "done"),
             ("turn", "ran 10"),
             ("standing 30", "standing 2 0"),
@@ -61,7 +61,8 @@ fn every_form_of_answer() {
             ("standing 45", "standing 1 0"),
             (&take_in(50, set(61, -2147483648)), "done"),
             ("withdraw 45", "done"),
-            ("drain", "totals 1 0 1 0"),
+            ("drain", r#"done by console {"182": 1, "200": 1}"#),
+            ("drain", "done by console {}"),
             ("current 61", "value -2147483648"),
             (
                 "plain_run",
@@ -80,29 +81,62 @@ fn every_form_of_answer() {
     );
 }
 
-/// The totals of one drain are four numbers other than 0.
-#[test]
-fn totals_in_order() {
+/// Two drains with these totals: in the first three changes run, in the second four run, two stand,
+/// one is cleared and three fault. `at` has the timestamps of the changes 10 to 80.
+#[track_caller]
+fn assert_totals(at: impl Fn(u64) -> u64, first: &str, second: &str) {
     let twice = set(53, 1) + &set(53, 1);
+    let ran = format!("ran {}", at(10));
+    let [first, second] = [first, second].map(|totals| format!("done by console {totals}"));
     let calls = [
-        (take_in(30, copy(34, 50)), "done"),
-        (take_in(40, copy(34, 51)), "done"),
-        (take_in(50, set(52, 1)), "done"),
-        ("drain".to_string(), "totals 3 0 0 0"),
+        (take_in(at(30), copy(34, 50)), "done"),
+        (take_in(at(40), copy(34, 51)), "done"),
+        (take_in(at(50), set(52, 1)), "done"),
+        ("drain".to_string(), &first),
         // 10 marks 30 and 40, and 20 lets them stand. 60, 70 and 80 write 53 twice.
-        (take_in(10, set(34, 7)), "done"),
-        ("turn".to_string(), "ran 10"),
-        (take_in(20, set(34, 1)), "done"),
-        ("withdraw 50".to_string(), "done"),
-        (take_in(60, &twice), "done"),
-        (take_in(70, &twice), "done"),
-        (take_in(80, &twice), "done"),
-        (take_in(55, set(54, 1)), "done"),
-        (take_in(56, set(54, 2)), "done"),
-        (take_in(57, set(54, 3)), "done"),
-        ("drain".to_string(), "totals 4 2 1 3"),
+        (take_in(at(10), set(34, 7)), "done"),
+        ("turn".to_string(), &ran),
+        (take_in(at(20), set(34, 1)), "done"),
+        (format!("withdraw {}", at(50)), "done"),
+        (take_in(at(60), &twice), "done"),
+        (take_in(at(70), &twice), "done"),
+        (take_in(at(80), &twice), "done"),
+        (take_in(at(55), set(54, 1)), "done"),
+        (take_in(at(56), set(54, 2)), "done"),
+        (take_in(at(57), set(54, 3)), "done"),
+        ("drain".to_string(), &second),
     ];
     assert_answers(&[], &calls);
+}
+
+/// The totals of one console are four numbers other than 0, from place console × 4.
+#[test]
+fn totals_in_order() {
+    for (console, first, second) in [
+        (0, r#"{"0": 3}"#, r#"{"0": 4, "1": 2, "2": 1, "3": 3}"#),
+        (1, r#"{"4": 3}"#, r#"{"4": 4, "5": 2, "6": 1, "7": 3}"#),
+        (
+            255,
+            r#"{"1020": 3}"#,
+            r#"{"1020": 4, "1021": 2, "1022": 1, "1023": 3}"#,
+        ),
+    ] {
+        assert_totals(|time| 256 * time + console, first, second);
+    }
+}
+
+/// Each change is of another console.
+#[test]
+fn totals_of_many_consoles() {
+    let second = [
+        r#""80": 1, "121": 1, "161": 1, "202": 1, "220": 1, "224": 1, "228": 1"#,
+        r#""243": 1, "283": 1, "323": 1"#,
+    ];
+    assert_totals(
+        |time| time,
+        r#"{"120": 1, "160": 1, "200": 1}"#,
+        &format!("{{{}}}", second.join(", ")),
+    );
 }
 
 #[test]
@@ -128,7 +162,8 @@ fn tables_after_a_change() {
         ("view", settings(&[])),
     ];
     let expected = expected.map(|(key, list)| format!("\"{key}\": {list}"));
-    let expected = format!("done\ndone\ntotals 1 0 0 0\n{{{}}}\n", expected.join(", "));
+    let drained = r#"done by console {"40": 1}"#;
+    let expected = format!("done\ndone\n{drained}\n{{{}}}\n", expected.join(", "));
     assert_eq!(lines, expected);
 }
 
@@ -143,7 +178,7 @@ fn tables_need_not_be_set_up() {
         &[],
         &[
             (take_in(10, set(34, 7)), "done"),
-            ("drain".to_string(), "totals 1 0 0 0"),
+            ("drain".to_string(), r#"done by console {"40": 1}"#),
             ("current 34".to_string(), "value 7"),
             ("set_up".to_string(), "done"),
             ("current 34".to_string(), "value 1"),
@@ -160,6 +195,7 @@ fn every_refusal() {
         &["--n", "2"],
         &[
             ("take_in_package 0000 len511", "refused 1"),
+            ("drain len1023", "refused 1"),
             ("take_in_package -", "refused 3"),
             ("take_in_package 00", "refused 3"),
             ("take_in_package 000000", "refused 3"),
@@ -201,7 +237,12 @@ fn every_refusal() {
     );
     assert_answers(
         &["--n", "2"],
-        &[("load held_2.json", "done"), ("turn", "refused 2")],
+        &[
+            ("load held_2.json", "done"),
+            ("turn", "refused 2"),
+            ("drain", "refused 2"),
+            ("drain len1023", "refused 1"),
+        ],
     );
 }
 
@@ -229,19 +270,47 @@ fn length_of_the_answer_slice() {
     );
 }
 
-/// A package of 512 entries has 512 answers.
+/// The lent slice must have 1,024 totals, whether changes wait or not.
+#[test]
+fn length_of_the_slice_of_totals() {
+    assert_answers(
+        &[],
+        &[
+            ("drain len1023", "refused 1"),
+            ("drain len1024", "done by console {}"),
+            (&take_in(10, set(34, 7)), "done"),
+            ("drain len0", "refused 1"),
+            ("drain len4", "refused 1"),
+            ("drain len1023", "refused 1"),
+            ("drain len1025", "refused 1"),
+            ("drain len2048", "refused 1"),
+            ("drain len66560", "refused 1"),
+            ("standing 10", "standing 0 0"),
+            ("drain len01024", r#"done by console {"40": 1}"#),
+            ("standing 10", "standing 1 0"),
+            ("drain len1025", "refused 1"),
+            ("drain", "done by console {}"),
+        ],
+    );
+}
+
+/// A package of 512 entries has 512 answers. Its changes are two of each console.
 #[test]
 fn the_most_entries() {
     let entries: Vec<(u64, u8, &str)> = (1..=512).map(|timestamp| (timestamp, 0, "")).collect();
     let line = format!("take_in_package {}", package(&entries));
     let answers = [vec!["0"; 512], vec!["255"; 512]];
     let [first, second] = answers.map(|answers| format!("done answers [{}]", answers.join(", ")));
+    let totals: Vec<String> = (0..256)
+        .map(|console| format!("\"{}\": 2", 4 * console))
+        .collect();
+    let drained = format!("done by console {{{}}}", totals.join(", "));
     assert_answers(
         &["--n", "512"],
         &[
             (&line, &first),
             (&line, &second),
-            (&"drain".to_string(), "totals 512 0 0 0"),
+            (&"drain".to_string(), &drained),
         ],
     );
 }
@@ -269,7 +338,7 @@ fn a_package_out() {
             ("package_out 65535", of_no_entries),
             ("package_out 1000000", of_no_entries),
             (&take_in(0xCDEF, &first), "done"),
-            ("drain", "totals 1 0 0 0"),
+            ("drain", r#"done by console {"956": 1}"#),
             (&take_in(10, &second), "done"),
             ("withdraw 10", "done"),
             ("package_out 0", refused),
@@ -278,7 +347,7 @@ fn a_package_out() {
             ("package_out 000071", &answer),
             ("package_out 70000", &answer),
             ("standing 10", "standing 0 1"),
-            ("drain", "totals 0 0 1 0"),
+            ("drain", r#"done by console {"42": 1}"#),
             ("package_out 70", &answer),
             // What was written is taken in.
             ("set_up", "done"),
@@ -291,7 +360,7 @@ fn a_package_out() {
                 &format!("take_in_package {written}"),
                 "done answers [255, 255, 11]",
             ),
-            ("drain", "totals 1 0 1 0"),
+            ("drain", r#"done by console {"42": 1, "956": 1}"#),
             ("package_out 70", &answer),
         ],
     );

@@ -46,6 +46,7 @@ fn another_capacity_is_refused_by_every_call() {
         ("withdraw 10", "refused 1"),
         ("turn", "refused 1"),
         ("drain", "refused 1"),
+        ("drain len5", "refused 1"),
         ("current 34", "refused 1"),
         ("value_as_of 10 34", "refused 1"),
         ("standing 10", "refused 1"),
@@ -84,7 +85,7 @@ fn the_script_may_be_a_file() {
         "script.calls",
         take_in(10, set(34, 7)) + "\ndrain\ncurrent 34",
     );
-    let answers = "done\ntotals 1 0 0 0\nvalue 7\n";
+    let answers = "done\ndone by console {\"40\": 1}\nvalue 7\n";
     // Standard input is not read.
     assert_eq!(printed(&["script.calls"], "turn"), answers);
     assert_eq!(printed(&["--n", "1", "script.calls"], ""), answers);
@@ -105,7 +106,7 @@ fn help() {
             "take_in TS HEX",
             "withdraw TS",
             "turn",
-            "drain",
+            "drain [lenL]",
             "current S",
             "value_as_of TS S",
             "standing TS",

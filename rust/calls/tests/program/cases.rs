@@ -1,5 +1,6 @@
-//! The cases of document 01, "Cases to know", with the start values (R-1) and the faults shown (R-2)
-//! of document 02, and the example scripts, of which one fills a cabinet from its neighbour (R-3).
+//! The cases of document 01, "Cases to know", with the start values (R-1), the faults shown (R-2) and
+//! the totals for each console (R-5) of document 02, and the example scripts, of which one fills a
+//! cabinet from its neighbour (R-3).
 
 use crate::programs::{add, constant, copy, instruction, package, set, take, take_in, write};
 use crate::{assert_answers, printed};
@@ -14,14 +15,14 @@ fn assert_case(calls: &[(&str, &str)]) {
 
 #[test]
 fn p1() {
-    assert_case(&[("turn", "idle"), ("drain", "totals 0 0 0 0")]);
+    assert_case(&[("turn", "idle"), ("drain", "done by console {}")]);
 }
 
 #[test]
 fn p2() {
     assert_case(&[
         (&take_in(20, set(34, 5)), "done"),
-        ("drain", "totals 1 0 0 0"),
+        ("drain", r#"done by console {"80": 1}"#),
         (&take_in(10, set(34, 7)), "done"),
         ("turn", "ran 10"),
         ("turn", "idle"),
@@ -34,7 +35,7 @@ fn p2() {
 fn p3() {
     assert_case(&[
         (&take_in(20, copy(34, 50)), "done"),
-        ("drain", "totals 1 0 0 0"),
+        ("drain", r#"done by console {"80": 1}"#),
         (&take_in(10, set(34, 7)), "done"),
         ("turn", "ran 10"),
         ("turn", "ran 20"),
@@ -47,7 +48,7 @@ fn p3() {
 fn p4() {
     assert_case(&[
         (&take_in(20, copy(34, 50)), "done"),
-        ("drain", "totals 1 0 0 0"),
+        ("drain", r#"done by console {"80": 1}"#),
         (&take_in(10, set(34, 1)), "done"),
         ("turn", "ran 10"),
         ("turn", "idle"),
@@ -60,7 +61,7 @@ fn p5() {
     assert_case(&[
         (&take_in(20, set(34, 5)), "done"),
         (&take_in(30, copy(34, 50)), "done"),
-        ("drain", "totals 2 0 0 0"),
+        ("drain", r#"done by console {"80": 1, "120": 1}"#),
         (&take_in(10, set(34, 7)), "done"),
         ("turn", "ran 10"),
         ("turn", "idle"),
@@ -73,7 +74,7 @@ fn p5() {
 fn p6() {
     assert_case(&[
         (&take_in(20, add(34, 1)), "done"),
-        ("drain", "totals 1 0 0 0"),
+        ("drain", r#"done by console {"80": 1}"#),
         ("current 34", "value 2"),
         (&take_in(10, set(34, 7)), "done"),
         ("turn", "ran 10"),
@@ -87,7 +88,7 @@ fn p6() {
 fn p7() {
     assert_case(&[
         (&take_in(30, copy(34, 50)), "done"),
-        ("drain", "totals 1 0 0 0"),
+        ("drain", r#"done by console {"120": 1}"#),
         (&take_in(10, set(34, 7)), "done"),
         ("turn", "ran 10"),
         (&take_in(20, set(34, 1)), "done"),
@@ -103,7 +104,7 @@ fn p8() {
     let program = set(34, 7) + &set(40, 3);
     assert_case(&[
         (&take_in(10, program), "done"),
-        ("drain", "totals 1 0 0 0"),
+        ("drain", r#"done by console {"40": 1}"#),
         ("current 34", "value 7"),
         ("current 40", "value 3"),
         ("withdraw 10", "done"),
@@ -125,7 +126,7 @@ fn p9() {
         ("value_as_of 11 34", "value 1"),
         ("set_up", "done"),
         (&take_in(10, &program), "done"),
-        ("drain", "totals 0 0 0 1"),
+        ("drain", r#"done by console {"43": 1}"#),
     ]);
 }
 
@@ -148,7 +149,7 @@ fn p10() {
     ];
     assert_case(&[
         (&take_in(10, program.concat()), "done"),
-        ("drain", "totals 1 0 0 0"),
+        ("drain", r#"done by console {"40": 1}"#),
         ("current 40", "value -2147483648"),
         ("current 41", "value -2147483648"),
         ("current 42", "value -3"),
@@ -161,7 +162,7 @@ fn p11() {
     assert_case(&[
         (&take_in(10, set(36, 400)), "done"),
         (&take_in(30, take(36, 300, 37)), "done"),
-        ("drain", "totals 2 0 0 0"),
+        ("drain", r#"done by console {"40": 1, "120": 1}"#),
         ("current 36", "value 100"),
         ("current 37", "value 0"),
         (&take_in(20, take(36, 200, 37)), "done"),
@@ -183,7 +184,10 @@ fn accepted_and_refused() {
         (&take_in(u64::MAX - 1, "-"), "done"),
         (&take_in(2, stops(256)), "done"),
         (&take_in(3, set(1023, 9)), "done"),
-        ("drain", "totals 4 0 0 0"),
+        (
+            "drain",
+            r#"done by console {"4": 1, "8": 1, "12": 1, "1016": 1}"#,
+        ),
         ("current 1023", "value 9"),
         ("value_as_of 18446744073709551615 1023", "value 9"),
         (&take_in(0, "-"), "refused 4"),
@@ -230,11 +234,10 @@ fn assert_example(name: &str, expected: &str) {
 
 #[test]
 fn example_of_power() {
-    let expected = "\
+    let expected = r#"done
 done
 done
-done
-totals 2 0 0 0
+done by console {"40": 1, "120": 1}
 value 100
 value 0
 done
@@ -246,18 +249,17 @@ value -100
 value 1
 value 200
 done
-totals 1 0 1 0
+done by console {"82": 1, "120": 1}
 value 100
 value 0
 standing 1 1
-";
+"#;
     assert_example("power.calls", expected);
 }
 
 #[test]
 fn example_of_a_fault() {
-    let expected = "\
-done
+    let expected = r#"done
 done
 done
 done
@@ -265,13 +267,33 @@ ran 10
 faulted 20 2
 ran 30
 done
-totals 3 0 0 0
+done by console {"60": 1, "80": 1, "120": 1}
 value 1
 done
-totals 1 0 1 1
+done by console {"62": 1, "83": 1, "120": 1}
 value 0
-";
+"#;
     assert_example("fault.calls", expected);
+}
+
+#[test]
+fn example_of_consoles() {
+    let expected = r#"done
+done
+done
+done
+done
+done by console {"4": 1, "8": 2, "12": 1}
+done
+done by console {"4": 1, "8": 2}
+value 250
+value 250
+done
+done by console {"6": 1, "8": 2}
+value 400
+value 400
+"#;
+    assert_example("consoles.calls", expected);
 }
 
 /// What is taken in is what was written.
@@ -284,16 +306,15 @@ fn example_of_a_neighbour() {
         (20, 1, ""),
     ]);
     let expected = format!(
-        "\
+        r#"done
 done
 done
+done by console {{"40": 1, "120": 1}}
 done
-totals 2 0 0 0
-done
-totals 2 0 0 0
+done by console {{"80": 1, "120": 1}}
 value 250
 done
-totals 1 0 1 0
+done by console {{"82": 1, "120": 1}}
 value 400
 value 400
 standing 1 1
@@ -302,12 +323,12 @@ length 98 {package}
 done
 value 0
 done answers [0, 0, 0, 0]
-totals 2 0 1 0
+done by console {{"40": 1, "82": 1, "120": 1}}
 value 400
 value 400
 standing 1 1
 length 98 {package}
-"
+"#
     );
     assert_example("neighbour.calls", &expected);
     let script = fs::read_to_string(example("neighbour.calls")).expect("the example is there");

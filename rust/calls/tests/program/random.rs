@@ -110,12 +110,15 @@ impl Script {
                 });
                 self.push("turn".to_string(), answer);
             }
-            Call::Drain => {
-                let answer = drain(n, tables).map(|totals| {
-                    let totals = [totals.ran, totals.stood, totals.cleared, totals.faulted];
-                    "totals ".to_string() + &totals.map(|total| total.to_string()).join(" ")
-                });
-                self.push("drain".to_string(), answer);
+            Call::Drain { totals } => {
+                let mut lent = vec![0; totals.len()];
+                let answer = drain(n, tables, &mut lent)
+                    .map(|()| "done by console ".to_string() + &by_place(&lent));
+                let mut line = "drain".to_string();
+                if lent.len() != 1024 {
+                    line += &format!(" len{}", lent.len());
+                }
+                self.push(line, answer);
             }
         }
     }
@@ -202,6 +205,17 @@ fn list<T: ToString>(list: &[T]) -> String {
     "[".to_string() + &list.join(", ") + "]"
 }
 
+/// The numbers other than 0, each behind its place.
+fn by_place(numbers: &[u16]) -> String {
+    let mut members = Vec::new();
+    for (place, number) in numbers.iter().enumerate() {
+        if *number > 0 {
+            members.push("\"".to_string() + &place.to_string() + "\": " + &number.to_string());
+        }
+    }
+    "{".to_string() + &members.join(", ") + "}"
+}
+
 /// A capacity from 1 to 64: small, so that tables are soon full, one that a list of calls may just
 /// fill, or any.
 fn capacity(random: &mut Random) -> usize {
@@ -280,7 +294,8 @@ fn lists_of_calls_have_the_outside_answers_and_tables() {
             "turn stood",
             "turn cleared",
             "turn faulted",
-            "drain totals",
+            "drain done",
+            "drain refused 1",
             "current value",
             "current refused 5",
             "value_as_of value",
@@ -389,7 +404,7 @@ fn calls_on_any_tables_have_the_outside_answers_and_tables() {
         "take_in_package refused 2",
         "turn ran",
         "turn faulted",
-        "drain totals",
+        "drain done",
         "tables ",
     ];
     assert_counts(&counts, &others, LISTS_ON_ANY_TABLES / 40);

@@ -9,7 +9,7 @@ fn nothing_is_answered_for_empty_lines_and_comments() {
     assert_eq!(printed(&[], "\n\n# turn\n  \n\t# turn\n\r\n"), "");
     assert_eq!(
         printed(&[], "\nturn\n\n# drain\n drain \n"),
-        "idle\ntotals 0 0 0 0\n"
+        "idle\ndone by console {}\n"
     );
 }
 
@@ -49,7 +49,7 @@ fn answers_come_at_once() {
         .expect("the program reads");
     let mut rest = String::new();
     stdout.read_to_string(&mut rest).expect("the program ends");
-    assert_eq!(rest, "totals 0 0 0 0\n");
+    assert_eq!(rest, "done by console {}\n");
     let output = child.wait_with_output().expect("the program ends");
     assert_eq!(text(&output.stderr), "line 8: there is no call \"what\"\n");
     assert_eq!(output.status.code(), Some(1));

@@ -66,6 +66,16 @@ fn lines_that_are_no_calls() {
         "take_in_package 0000 len18446744073709551616",
         r#"the L of lenL is too large: "18446744073709551616""#,
     );
+    assert_unreadable("drain 3", r#"lenL is not len and a length: "3""#);
+    assert_unreadable(
+        "drain len",
+        r#"the L of lenL is not a number in decimal digits: """#,
+    );
+    assert_unreadable("drain len3 4", r#""4" is a word too many"#);
+    assert_unreadable(
+        "drain len18446744073709551616",
+        r#"the L of lenL is too large: "18446744073709551616""#,
+    );
     assert_unreadable(
         "package_out len200",
         r#"L is not a number in decimal digits: "len200""#,
@@ -87,6 +97,18 @@ fn a_slice_beyond_all_memory() {
                 &format!("there is no room for {length} bytes"),
             );
         }
+    }
+    // A total has two bytes.
+    for length in [
+        usize::MAX,
+        isize::MAX as usize,
+        isize::MAX as usize / 2 - 4096,
+    ] {
+        let bytes = 2 * length as u128;
+        assert_unreadable(
+            format!("drain len{length}"),
+            &format!("there is no room for {bytes} bytes"),
+        );
     }
 }
 

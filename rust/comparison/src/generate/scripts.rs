@@ -1,7 +1,8 @@
 //! Random lists of calls, and tables, whose changes read and write the same few settings.
 
 use super::packages::{self, Breach};
-use super::{damage, tables, Random, Settings, EXTREMES};
+use super::{damage, tables, totals, Random, Settings, EXTREMES, REFUSED_TOTALS};
+use outside::checker::TOTALS;
 use outside::package::{lay_out, Entry, ANSWERS};
 use outside::program::{
     op, Access, Instruction, INSTRUCTION_BYTES, MAX_INSTRUCTIONS, REGISTERS, SETTINGS,
@@ -28,7 +29,10 @@ pub enum Call {
         answers: Vec<u8>,
     },
     Turn,
-    Drain,
+    /// `totals` is the lent slice.
+    Drain {
+        totals: Vec<u16>,
+    },
 }
 
 /// What the calls of a list are made of: few settings, few timestamps, and what was sent before.
@@ -91,6 +95,9 @@ impl Source {
             ((1 << 32) - 10, 1),
             (INFINITY - count, 1),
             (1, INFINITY / count),
+            // Of four consoles alone, the first or the last among them.
+            (256, 64),
+            (255, 64),
         ]);
         Self {
             settings,
@@ -150,7 +157,14 @@ impl Source {
                     _ => self.timestamp(random),
                 },
             },
-            9 => Call::Drain,
+            9 => {
+                let length = match random.below(24) {
+                    0 => random.pick(&REFUSED_TOTALS),
+                    _ => TOTALS,
+                };
+                let totals = totals(random, length);
+                Call::Drain { totals }
+            }
             _ => Call::Turn,
         }
     }

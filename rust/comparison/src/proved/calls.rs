@@ -5,7 +5,7 @@
 
 use outside::book::LoggedTurn;
 use outside::calls::Standing;
-use outside::checker::{Totals, Turn, Turned};
+use outside::checker::{Turn, Turned};
 use outside::intake::Taken;
 use outside::program::Access;
 use outside::tables::{self, Status, LIST_ENTRIES};
@@ -130,19 +130,8 @@ pub fn logged_turn(n: usize, tables: &mut Tables) -> Result<Option<LoggedTurn>, 
 }
 
 /// Drains.
-pub fn drain(n: usize, tables: &mut Tables) -> Result<Totals, u8> {
-    let tolbezun::Totals {
-        ran,
-        stood,
-        cleared,
-        faulted,
-    } = calls::drain(n, tables).map_err(Refusal::number)?;
-    Ok(Totals {
-        ran,
-        stood,
-        cleared,
-        faulted,
-    })
+pub fn drain(n: usize, tables: &mut Tables, totals: &mut [u16]) -> Result<(), u8> {
+    calls::drain(n, tables, totals).map_err(Refusal::number)
 }
 
 /// The current value of a setting.

@@ -2,13 +2,13 @@
 //! same.
 
 use crate::{calls_in_list, Script, CAPACITIES};
-use comparison::generate::packages;
 use comparison::generate::scripts::{Call, Source};
-use comparison::generate::Random;
+use comparison::generate::{self, packages, Random};
 use comparison::packages_out::{self, PackageEvent, Size};
 use comparison::reached::Reached;
 use comparison::seeds::count_reached;
 use outside::book;
+use outside::checker::TOTALS;
 use outside::filled;
 use outside::package::{entries, Entry, ANSWERS, DONE, MAX_BYTES};
 use outside::tables::{Status, Tables, MAX_CAPACITY};
@@ -48,7 +48,7 @@ fn neighbour(random: &mut Random, n: usize, reached: &mut Reached<Event>) -> (Sc
     for _ in 0..random.below(24) {
         let call = source.call(random, script.both.tables());
         // Few turns, so that changes wait.
-        if !matches!(call, Call::Turn | Call::Drain) || random.below(4) == 0 {
+        if !matches!(call, Call::Turn | Call::Drain { .. }) || random.below(4) == 0 {
             script.make(call, &mut Reached::default());
         }
     }
@@ -107,9 +107,10 @@ fn fill(random: &mut Random, n: usize, package: &[u8], neighbour: &Script) {
     let (mut script, answers) = taken_in(random, n, package);
     let written = script.package_out(package.len(), calls);
     assert_eq!(written.as_deref(), Ok(package), "before the drain");
+    let totals = generate::totals(random, TOTALS);
     match n {
-        MAX_CAPACITY => script.drain_as_alone(calls),
-        _ => script.drain(calls),
+        MAX_CAPACITY => script.drain_as_alone(totals, calls),
+        _ => script.drain(totals, calls),
     }
     let (tables, expected) = (script.both.tables(), neighbour.both.tables());
     let checked = filled::check_filled(&answers, tables, expected);
@@ -138,7 +139,7 @@ fn fill_in_part(random: &mut Random, n: usize, package: &[u8], reached: &mut Rea
         reached.count_if(answer == 9, Event::ChangeRefused);
         reached.count_if(answer == 10, Event::WithdrawalRefused);
     }
-    script.drain(&mut Reached::default());
+    script.drain(generate::totals(random, TOTALS), &mut Reached::default());
 }
 
 #[test]
@@ -146,7 +147,8 @@ fn a_cabinet_is_filled_from_its_neighbour() {
     let reached = count_reached(NEIGHBOURS, |random, index, reached| {
         let n = 1 + index % CAPACITIES;
         let (mut neighbour, package) = neighbour(random, n, reached);
-        neighbour.drain(&mut Reached::default());
+        let totals = generate::totals(random, TOTALS);
+        neighbour.drain(totals, &mut Reached::default());
         let written = neighbour.package_out(package.len(), &mut Reached::default());
         assert_eq!(written.as_ref(), Ok(&package), "after the drain");
 
@@ -200,7 +202,7 @@ fn holding_the_same(random: &mut Random, n: usize, package: &[u8]) -> Script {
         script.make(call, calls);
         match random.below(8) {
             0..4 => script.make(Call::Turn, calls),
-            4 => script.drain(calls),
+            4 => script.drain(generate::totals(random, TOTALS), calls),
             _ => {}
         }
     }

@@ -4,22 +4,21 @@
 mod filling;
 
 use comparison::both::Both;
-use comparison::generate::packages;
 use comparison::generate::scripts::{Call, Source};
-use comparison::generate::Random;
+use comparison::generate::{self, packages, Random, REFUSED_TOTALS};
 use comparison::packages_out::{self, PackageEvent};
 use comparison::proved::calls as proved;
 use comparison::reached::Reached;
 use comparison::seeds::{count_reached, with_seeds};
-use comparison::turns::{self, TurnEvent};
+use comparison::turns::{self, DrainEvent, TurnEvent};
 use outside::book::{self, LoggedTurn};
 use outside::calls::plain_run;
-use outside::checker::{Turn, Turned};
+use outside::checker::{Turn, Turned, TOTALS};
 use outside::filled;
 use outside::intake::Taken;
 use outside::package::{entries, lay_out, Entry, ALREADY_HELD, ANSWERS, DONE};
 use outside::program::{op, Fault, Instruction, MAX_INSTRUCTIONS, SETTINGS};
-use outside::tables::{Status, Tables, MAX_CAPACITY};
+use outside::tables::{Status, Tables, INFINITY, MAX_CAPACITY};
 
 /// The highest capacity of the tables of most lists. Each capacity from 1 on has as many lists.
 const CAPACITIES: usize = 64;
@@ -57,6 +56,10 @@ enum Event {
     /// A change that was Valid before a drain has a turn in it.
     DrainMarks,
     Drained,
+    Drain(DrainEvent),
+    /// A drain is refused that is lent so many totals, and one where changes wait for their turns.
+    DrainRefused(usize),
+    DrainRefusedWaiting,
     /// Tables that hold changes are set up again.
     SetUp,
     PackageOut(PackageEvent),
@@ -103,7 +106,7 @@ impl Script {
                 let _ = self.package_out(room, reached);
             }
         }
-        self.drain(reached);
+        self.drain(generate::totals(random, TOTALS), reached);
     }
 
     /// Writes a package, lent so many bytes, and checks it by the book.
@@ -162,31 +165,46 @@ impl Script {
                 reached.count_if(turn.is_none(), Event::Idle);
                 self.calls.push(book::Call::Turn(turn));
             }
-            Call::Drain => self.drain(reached),
+            Call::Drain { totals } if totals.len() == TOTALS => self.drain(totals, reached),
+            Call::Drain { mut totals } => {
+                assert_eq!(self.both.drain(&mut totals), Err(1));
+                reached.count(Event::DrainRefused(totals.len()));
+                let mut held = 0..before.held_count();
+                let waiting = held.any(|place| before.status(place) != Status::Valid);
+                reached.count_if(waiting, Event::DrainRefusedWaiting);
+                self.calls.push(book::Call::Drain(None));
+            }
         }
     }
 
-    /// Drains, compares the drain with single turns on both, and checks demand 3.
-    fn drain(&mut self, reached: &mut Reached<Event>) {
+    /// Drains, lent these 1,024 totals, compares the drain with single turns on both, and checks
+    /// demand 3.
+    fn drain(&mut self, totals: Vec<u16>, reached: &mut Reached<Event>) {
         let mut single = self.both.clone();
         let held = single.tables().held_count();
         let turns = book::turns_of_drain(held, || logged_turn(&mut single, reached));
-        self.drain_like(turns, single.tables(), reached);
+        self.drain_like(turns, single.tables(), totals, reached);
     }
 
     /// As [`Self::drain`], but with the single turns on the proved library alone, which takes less
     /// time.
-    fn drain_as_alone(&mut self, reached: &mut Reached<Event>) {
+    fn drain_as_alone(&mut self, totals: Vec<u16>, reached: &mut Reached<Event>) {
         let n = self.both.capacity();
         let mut single = self.both.proved_tables().clone();
         let held = self.both.tables().held_count();
         let turns = book::turns_of_drain(held, || turn_alone(n, &mut single));
-        self.drain_like(turns, &proved::take_back(&single), reached);
+        self.drain_like(turns, &proved::take_back(&single), totals, reached);
     }
 
-    /// Drains, compares the drain with these turns, which were made singly and left these tables,
-    /// and checks demand 3.
-    fn drain_like(&mut self, turns: Vec<LoggedTurn>, left: &Tables, reached: &mut Reached<Event>) {
+    /// Drains, lent these totals, compares the drain with these turns, which were made singly and
+    /// left these tables, and checks demand 3: so the totals are those of the single turns.
+    fn drain_like(
+        &mut self,
+        turns: Vec<LoggedTurn>,
+        left: &Tables,
+        mut totals: Vec<u16>,
+        reached: &mut Reached<Event>,
+    ) {
         reached.count_if(turns.is_empty(), Event::DrainOfNone);
         reached.count_if(turns.len() > 1, Event::DrainOfSeveral);
         for logged in &turns {
@@ -196,7 +214,10 @@ impl Script {
             reached.count_if(valid, Event::DrainMarks);
         }
 
-        let totals = self.both.drain().expect("the tables are in form");
+        assert_eq!(self.both.drain(&mut totals), Ok(()));
+        for event in turns::counted(&totals) {
+            reached.count(Event::Drain(event));
+        }
         let tables = self.both.tables();
         assert!(tables == left, "a drain's turns are single turns");
         self.calls.push(book::Call::Drain(Some((totals, turns))));
@@ -222,7 +243,7 @@ impl Script {
     /// Drains as [`Self::drain`] does, and panics unless these are the turns.
     #[track_caller]
     fn assert_drains(&mut self, expected: &[(u64, Turned)], reached: &mut Reached<Event>) {
-        self.drain(reached);
+        self.drain(vec![u16::MAX; TOTALS], reached);
         let Some(book::Call::Drain(Some((_, turns)))) = self.calls.last() else {
             panic!("the last call is an answered drain");
         };
@@ -230,6 +251,19 @@ impl Script {
         let expected = expected.iter();
         let expected = expected.map(|&(timestamp, turned)| Turn { timestamp, turned });
         assert_eq!(turns.collect::<Vec<_>>(), expected.collect::<Vec<_>>());
+    }
+
+    /// Drains as [`Self::drain`] does, and panics unless these are the totals that are not 0, by
+    /// place.
+    #[track_caller]
+    fn assert_counts(&mut self, expected: &[(usize, u16)], reached: &mut Reached<Event>) {
+        self.drain(vec![u16::MAX; TOTALS], reached);
+        let Some(book::Call::Drain(Some((totals, _)))) = self.calls.last() else {
+            panic!("the last call is an answered drain");
+        };
+        let totals = totals.iter().copied().enumerate();
+        let not_zero = totals.filter(|&(_, total)| total != 0);
+        assert_eq!(not_zero.collect::<Vec<_>>(), expected);
     }
 }
 
@@ -365,6 +399,17 @@ fn lists_of_calls_have_the_same_answers_and_tables_and_meet_demand_3() {
         Event::Turn(TurnEvent::MarkedWriter),
         Event::Turn(TurnEvent::NextWriterStops),
         Event::Turn(TurnEvent::ViewOnRemoval),
+        Event::Drain(DrainEvent::Consoles(1)),
+        Event::Drain(DrainEvent::Consoles(2)),
+        Event::Drain(DrainEvent::Consoles(4)),
+        Event::Drain(DrainEvent::Consoles(8)),
+        Event::Drain(DrainEvent::MostOfConsole(1)),
+        Event::Drain(DrainEvent::MostOfConsole(2)),
+        Event::Drain(DrainEvent::MostOfConsole(4)),
+        Event::Drain(DrainEvent::FirstConsole),
+        Event::Drain(DrainEvent::LastConsole),
+        Event::Drain(DrainEvent::KindsOfConsole),
+        Event::DrainRefusedWaiting,
         Event::PackageOut(PackageEvent::OfNone),
         Event::PackageOut(PackageEvent::Exact),
         Event::PackageOut(PackageEvent::Longer),
@@ -395,6 +440,9 @@ fn lists_of_calls_have_the_same_answers_and_tables_and_meet_demand_3() {
         for &answer in answers {
             reached.assert_at_least(SCRIPTS / 50, answered(answer));
         }
+    }
+    for length in REFUSED_TOTALS {
+        reached.assert_at_least(SCRIPTS / 50, Event::DrainRefused(length));
     }
 }
 
@@ -428,13 +476,19 @@ fn make_alone(n: usize, tables: &mut tolbezun::Tables, call: Call) -> book::Call
             }
         }
         Call::Turn => book::Call::Turn(turn_alone(n, tables)),
-        Call::Drain => {
+        Call::Drain { mut totals } if totals.len() == TOTALS => {
             let mut single = tables.clone();
             let held = usize::from(single.held[0]);
             let turns = book::turns_of_drain(held, || turn_alone(n, &mut single));
-            let totals = proved::drain(n, tables).expect("the tables are in form");
+            assert_eq!(proved::drain(n, tables, &mut totals), Ok(()));
             assert!(*tables == single, "a drain's turns are single turns");
             book::Call::Drain(Some((totals, turns)))
+        }
+        Call::Drain { mut totals } => {
+            let given = (tables.clone(), totals.clone());
+            assert_eq!(proved::drain(n, tables, &mut totals), Err(1));
+            assert!(*tables == given.0 && totals == given.1);
+            book::Call::Drain(None)
         }
     }
 }
@@ -457,11 +511,13 @@ fn lists_of_calls_on_the_proved_library_alone_meet_demand_3() {
             let last = calls_in_list(random, n);
             for index in 0..=last {
                 let call = match index {
-                    _ if index == last => Call::Drain,
+                    _ if index == last => Call::Drain {
+                        totals: generate::totals(random, TOTALS),
+                    },
                     _ => source.call(random, &proved::take_back(&tables)),
                 };
                 calls.push(make_alone(n, &mut tables, call));
-                if let Some(book::Call::Drain(_)) = calls.last() {
+                if let Some(book::Call::Drain(Some(_))) = calls.last() {
                     let checked = book::check(&calls, &proved::take_back(&tables));
                     assert!(checked.is_ok(), "{checked:?} of {calls:?}");
                     drained += 1;
@@ -511,7 +567,8 @@ fn full_tables_of_capacity_4096_have_the_same_answers_and_tables_and_meet_demand
                 script.make(Call::Turn, &mut reached);
                 script.both.ask_all(timestamp, source.setting(random));
             }
-            script.drain_as_alone(&mut reached);
+            let totals = generate::totals(random, TOTALS);
+            script.drain_as_alone(totals, &mut reached);
         }
         assert_eq!(script.both.tables().held_count(), n);
         reached
@@ -649,4 +706,50 @@ fn a_change_that_faulted_stands_and_is_cleared() {
     reached.assert_at_least(1, Event::Turn(TurnEvent::StoodAfterFault));
     script.make(Call::Withdraw { timestamp: 100 }, &mut reached);
     script.assert_drains(&[(100, Turned::Cleared)], &mut reached);
+}
+
+/// Consoles 255, 0, 1, 10, 254, 0, 255 and 10: the first and the last among them, and some twice.
+#[test]
+fn totals_are_by_the_lowest_8_bits_of_the_timestamp() {
+    let mut reached = Reached::default();
+    let mut script = Script::new(8);
+    for timestamp in [
+        255,
+        256,
+        257,
+        266,
+        INFINITY - 1,
+        INFINITY - 255,
+        INFINITY - 256,
+        10,
+    ] {
+        script.take_in(timestamp, &name(41), &mut reached);
+    }
+    let ran = [(0, 2), (4, 1), (40, 2), (1_016, 1), (1_020, 2)];
+    script.assert_counts(&ran, &mut reached);
+    script.assert_counts(&[], &mut reached);
+    for timestamp in [256, 266, INFINITY - 256] {
+        script.make(Call::Withdraw { timestamp }, &mut reached);
+    }
+    let cleared = [(2, 1), (42, 1), (1_022, 1)];
+    script.assert_counts(&cleared, &mut reached);
+}
+
+/// Change 276, of console 20, runs again as others say.
+#[test]
+fn totals_show_the_console_whose_changes_run_again() {
+    let mut reached = Reached::default();
+    let mut script = Script::new(8);
+    script.take_in(276, &named_at(1, op::WRITE_INDEXED), &mut reached);
+    script.take_in(20, &[], &mut reached);
+    script.assert_counts(&[(80, 2)], &mut reached);
+    script.take_in(10, &name(-1), &mut reached);
+    script.assert_counts(&[(40, 1), (83, 1)], &mut reached);
+    script.take_in(266, &name(41), &mut reached);
+    script.assert_counts(&[(40, 1), (80, 1)], &mut reached);
+    // 268 marks it, and 270 lets it stand.
+    script.take_in(268, &name(42), &mut reached);
+    script.make(Call::Turn, &mut reached);
+    script.take_in(270, &name(41), &mut reached);
+    script.assert_counts(&[(56, 1), (81, 1)], &mut reached);
 }

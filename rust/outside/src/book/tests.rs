@@ -1,5 +1,7 @@
 use super::*;
-use crate::examples::{copy, package, set, write_named_by, Script};
+use crate::calls::Refusal;
+use crate::checker::drain;
+use crate::examples::{copy, not_zero, package, set, write_named_by, Script};
 use crate::package::ALREADY_HELD;
 
 /// 30 copies 34 to 50, drained; 10 sets 34 to 7 and 20 sets 40 to 1 and is withdrawn, drained.
@@ -15,10 +17,19 @@ fn drained() -> Script {
 }
 
 /// The totals and the turns of a call, which must be an answered drain.
-fn drain_of(call: &mut Call) -> (&mut Totals, &mut Vec<LoggedTurn>) {
+fn drain_of(call: &mut Call) -> (&mut Vec<u16>, &mut Vec<LoggedTurn>) {
     match call {
         Call::Drain(Some((totals, turns))) => (totals, turns),
         _ => panic!("{call:?}"),
+    }
+}
+
+/// Lets the totals of a call, which must be an answered drain, be those of its turns.
+fn count_again(call: &mut Call) {
+    let (totals, turns) = drain_of(call);
+    totals.fill(0);
+    for logged in turns {
+        totals[logged.turn.total_place()] += 1;
     }
 }
 
@@ -40,6 +51,9 @@ fn refused_and_held_calls_leave_the_book() {
     assert_eq!(script.try_withdraw(21), 10);
     assert_eq!(script.take_in_package(vec![0]), 3);
     assert_eq!(script.turn(), None);
+    let refused = drain(4, &mut script.tables, &mut [0; 4]);
+    assert_eq!(refused, Err(Refusal::Length));
+    script.calls.push(Call::Drain(None));
     assert_eq!(script.drain(), []);
 }
 
@@ -114,18 +128,113 @@ fn the_view_is_that_of_the_fresh_run() {
     }
 }
 
-#[test]
-fn the_totals_are_those_of_the_turns() {
+/// What is told of [`drained`] where the totals of its last drain are altered.
+fn with_totals(alter: impl FnOnce(&mut Vec<u16>)) -> Result<(), Breach> {
     let mut script = drained();
     let (totals, _) = drain_of(&mut script.calls[5]);
-    let expected = Totals {
-        ran: 2,
-        cleared: 1,
-        ..Totals::default()
-    };
-    assert_eq!(*totals, expected);
-    totals.stood += 1;
-    assert_eq!(script.check(), Err(Breach::Totals));
+    // 10 and 30 ran, and 20 was cleared.
+    assert_eq!(not_zero(totals), [(40, 1), (82, 1), (120, 1)]);
+    alter(totals);
+    script.check()
+}
+
+#[test]
+fn the_totals_are_those_of_the_turns() {
+    assert_eq!(with_totals(|_| {}), Ok(()));
+    let (ran, stood, cleared, faulted) = (0, 1, 2, 3);
+    // One too many, wherever.
+    for place in 0..TOTALS {
+        let checked = with_totals(|totals| totals[place] += 1);
+        assert_eq!(checked, Err(Breach::Sum(place % 4)), "{place}");
+    }
+    // A turn that is not counted.
+    for (place, kind) in [(40, ran), (82, cleared), (120, ran)] {
+        let checked = with_totals(|totals| totals[place] = 0);
+        assert_eq!(checked, Err(Breach::Sum(kind)));
+    }
+    // Kinds exchanged.
+    for (one, other, kind) in [
+        (82, 81, stood),
+        (82, 80, ran),
+        (82, 83, cleared),
+        (40, 43, ran),
+    ] {
+        let checked = with_totals(|totals| totals.swap(one, other));
+        assert_eq!(checked, Err(Breach::Sum(kind)));
+    }
+    let checked = with_totals(|totals| totals[faulted] = u16::MAX);
+    assert_eq!(checked, Err(Breach::Sum(faulted)));
+}
+
+/// Each kind has its sum here.
+#[test]
+fn a_turn_is_counted_for_its_console() {
+    // The kinds of 10 and 20 exchanged.
+    let checked = with_totals(|totals| {
+        totals.swap(40, 42);
+        totals.swap(80, 82);
+    });
+    assert_eq!(checked, Err(Breach::Total(40)));
+    // The next console, and the one before.
+    for (place, other, breach) in [(82, 86, 82), (82, 78, 78), (40, 36, 36), (120, 1020, 120)] {
+        let checked = with_totals(|totals| totals.swap(place, other));
+        assert_eq!(checked, Err(Breach::Total(breach)));
+    }
+    // All for one console.
+    let checked = with_totals(|totals| (totals[40], totals[120]) = (2, 0));
+    assert_eq!(checked, Err(Breach::Total(40)));
+    // By the highest 8 bits of the timestamp.
+    let checked = with_totals(|totals| {
+        totals.fill(0);
+        (totals[0], totals[2]) = (2, 1);
+    });
+    assert_eq!(checked, Err(Breach::Total(0)));
+}
+
+#[test]
+fn what_the_lent_slice_held_does_not_count() {
+    let mut script = drained();
+    let (totals, _) = drain_of(&mut script.calls[1]);
+    let held = totals.clone();
+    assert_eq!(not_zero(&held), [(120, 1)]);
+    let checked = with_totals(|totals| {
+        for (total, held) in totals.iter_mut().zip(held) {
+            *total += held;
+        }
+    });
+    assert_eq!(checked, Err(Breach::Sum(0)));
+    // Of a drain without turns, too.
+    assert_eq!(script.drain(), []);
+    let (totals, _) = drain_of(&mut script.calls[6]);
+    assert_eq!(not_zero(totals), []);
+    totals[1023] = 1;
+    assert_eq!(script.check(), Err(Breach::Sum(3)));
+}
+
+#[test]
+fn an_answered_drain_was_lent_1024_totals() {
+    for length in [0, 4, 1023, 1025] {
+        let checked = with_totals(|totals| totals.resize(length, 0));
+        assert_eq!(checked, Err(Breach::Length));
+    }
+}
+
+/// 10 and 266 are of the same console, 256 and 255 of the first and the last.
+#[test]
+fn turns_are_counted_by_the_lowest_8_bits() {
+    let mut script = Script::new(8);
+    for timestamp in [10, 266, 255, 256, 1 << 63, u64::MAX - 1] {
+        script.take_in(timestamp, &set(34, 7));
+    }
+    script.take_in(522, &[set(34, 7), set(34, 7)].concat());
+    script.withdraw(266);
+    script.drain();
+    let drain = script.calls.len() - 1;
+    let (totals, _) = drain_of(&mut script.calls[drain]);
+    let expected = [(0, 2), (40, 1), (42, 1), (43, 1), (1016, 1), (1020, 1)];
+    assert_eq!(not_zero(totals), expected);
+    totals.swap(0, 1020);
+    assert_eq!(script.check(), Err(Breach::Total(0)));
 }
 
 #[test]
@@ -133,6 +242,7 @@ fn no_change_has_two_turns() {
     let mut script = drained();
     let (_, turns) = drain_of(&mut script.calls[5]);
     turns[2].turn.timestamp = 10;
+    count_again(&mut script.calls[5]);
     assert_eq!(script.check(), Err(Breach::TwoTurns(10)));
 }
 
@@ -141,6 +251,7 @@ fn turns_are_of_changes_in_the_book() {
     let mut script = drained();
     let (_, turns) = drain_of(&mut script.calls[5]);
     turns[0].turn.timestamp = 11;
+    count_again(&mut script.calls[5]);
     assert_eq!(script.check(), Err(Breach::NotBooked(11)));
 }
 
@@ -153,9 +264,9 @@ fn no_change_is_run_again_in_vain() {
     turns[0].reads[0].value = 7;
     assert_eq!(script.check(), Err(Breach::RunInVain(30)));
     // A turn that did not run it is no earlier run.
-    let (totals, turns) = drain_of(&mut script.calls[1]);
-    (totals.ran, totals.stood) = (0, 1);
+    let (_, turns) = drain_of(&mut script.calls[1]);
     turns[0].turn.turned = Turned::Stood;
+    count_again(&mut script.calls[1]);
     assert_eq!(script.check(), Ok(()));
 }
 
@@ -203,11 +314,7 @@ fn turn_of_20(script: &mut Script, drain: usize) -> &mut LoggedTurn {
 /// Lets the turn of 20 in this drain have another answer, in the totals too.
 fn let_20_answer(script: &mut Script, drain: usize, answer: Turned) {
     turn_of_20(script, drain).turn.turned = answer;
-    let (totals, turns) = drain_of(&mut script.calls[DRAINS[drain]]);
-    *totals = Totals::default();
-    for logged in turns {
-        totals.count(logged.turn.turned);
-    }
+    count_again(&mut script.calls[DRAINS[drain]]);
 }
 
 #[test]
@@ -238,9 +345,10 @@ fn a_turn_that_faulted_is_an_earlier_run() {
 fn a_fault_is_not_counted_as_ran() {
     let mut script = drained_thrice([50, 60, 1024]);
     let (totals, _) = drain_of(&mut script.calls[DRAINS[2]]);
-    assert_eq!((totals.ran, totals.faulted), (1, 1));
-    (totals.ran, totals.faulted) = (2, 0);
-    assert_eq!(script.check(), Err(Breach::Totals));
+    // 17 ran, and 20 faulted.
+    assert_eq!(not_zero(totals), [(68, 1), (83, 1)]);
+    totals.swap(80, 83);
+    assert_eq!(script.check(), Err(Breach::Sum(0)));
 }
 
 #[test]

@@ -2,14 +2,23 @@ use super::Turned::{Cleared, Faulted, Ran, Stood};
 use super::*;
 use crate::calls::value_as_of;
 use crate::examples::{
-    add, assemble, copy, four_changes, if_zero, set, tables, take, write_named_by, Change, Script,
-    INVALID, NEW, VALID,
+    add, assemble, copy, four_changes, if_zero, not_zero, set, tables, take, write_named_by,
+    Change, Script, INVALID, NEW, VALID,
 };
 use crate::intake::{take_in, Taken};
 use crate::program::{op, Instruction};
 
 /// The program of no instructions.
 const NOTHING: [Instruction; 0] = [];
+
+/// Drains, which must be answered, and returns the totals that are not 0, by place. The lent slice
+/// held no 0 before.
+#[track_caller]
+fn totals(n: usize, tables: &mut Tables) -> Vec<(usize, u16)> {
+    let mut totals = [u16::MAX; TOTALS];
+    assert_eq!(drain(n, tables, &mut totals), Ok(()));
+    not_zero(&totals)
+}
 
 // Document 01, "Cases to know". A drain of a script checks demand 3.
 
@@ -266,12 +275,149 @@ fn a_drain_counts_faults_by_themselves() {
             Ok(Taken::Done)
         );
     }
-    let expected = Totals {
-        ran: 1,
-        faulted: 2,
-        ..Totals::default()
-    };
-    assert_eq!(drain(4, &mut tables), Ok(expected));
+    assert_eq!(totals(4, &mut tables), [(40, 1), (83, 1), (123, 1)]);
+}
+
+// Document 02, R-5.
+
+/// Tables whose changes have these timestamps, each with what has its turn answered so.
+fn to_be_turned(turns: &[(u64, Turned)]) -> Tables {
+    let changes = turns.iter().map(|&(timestamp, turned)| Change {
+        timestamp,
+        status: match turned {
+            Stood => INVALID,
+            _ => NEW,
+        },
+        withdrawn: u16::from(turned == Cleared),
+        program: match turned {
+            Faulted(_) => [set(34, 7), set(34, 7)].concat(),
+            _ => set(34, 7),
+        },
+        ..Change::default()
+    });
+    let mut order: Vec<u16> = (0..turns.len() as u16).collect();
+    order.sort_by_key(|&place| turns[usize::from(place)].0);
+    tables(turns.len(), &order, &changes.collect::<Vec<_>>())
+}
+
+/// From place console × 4: ran, stood, cleared, faulted.
+#[test]
+fn each_console_has_a_total_of_each_kind() {
+    for console in [0, 1, 10, 127, 128, 254, 255] {
+        for (kind, turned) in [Ran, Stood, Cleared, Faulted(3)].into_iter().enumerate() {
+            let mut tables = to_be_turned(&[(256 + console, turned)]);
+            let place = 4 * console as usize + kind;
+            assert_eq!(totals(1, &mut tables), [(place, 1)]);
+        }
+    }
+}
+
+#[test]
+fn the_console_is_the_lowest_8_bits_of_the_timestamp() {
+    for (timestamp, console) in [
+        (1, 1),
+        (255, 255),
+        (256, 0),
+        (257, 1),
+        (511, 255),
+        (512, 0),
+        (65_535, 255),
+        (65_536, 0),
+        (1 << 32, 0),
+        ((1 << 32) + 20, 20),
+        ((1 << 56) - 1, 255),
+        (1 << 56, 0),
+        (1 << 63, 0),
+        (0xAB00_0000_0000_0012, 0x12),
+        (u64::MAX - 257, 254),
+        (u64::MAX - 256, 255),
+        (u64::MAX - 255, 0),
+        (u64::MAX - 254, 1),
+        (u64::MAX - 2, 253),
+        (u64::MAX - 1, 254),
+    ] {
+        let mut tables = to_be_turned(&[(timestamp, Ran)]);
+        assert_eq!(totals(1, &mut tables), [(4 * console, 1)], "{timestamp}");
+    }
+}
+
+#[test]
+fn turns_of_a_console_are_counted_together() {
+    let mut tables = to_be_turned(&[(10, Ran), (266, Ran)]);
+    assert_eq!(totals(2, &mut tables), [(40, 2)]);
+    // Two consoles, 0 and 255, with turns of each kind.
+    let mut tables = to_be_turned(&[
+        (256, Faulted(3)),
+        (512, Faulted(3)),
+        (768, Stood),
+        (1 << 63, Ran),
+        (u64::MAX - 255, Ran),
+        (1024, Ran),
+        (1280, Cleared),
+        (255, Cleared),
+        (511, Cleared),
+        (767, Cleared),
+        (u64::MAX - 256, Stood),
+        (1023, Ran),
+        (1279, Faulted(3)),
+    ]);
+    let expected = [
+        (0, 3),
+        (1, 1),
+        (2, 1),
+        (3, 2),
+        (1020, 1),
+        (1021, 1),
+        (1022, 3),
+        (1023, 1),
+    ];
+    assert_eq!(totals(13, &mut tables), expected);
+}
+
+/// The same slice is lent to each.
+#[test]
+fn each_drain_counts_its_own_turns() {
+    let mut tables = four_changes();
+    let mut lent = [5; TOTALS];
+    assert_eq!(drain(6, &mut tables, &mut lent), Ok(()));
+    assert_eq!(not_zero(&lent), [(80, 1), (120, 1), (162, 1)]);
+    // 30 stands.
+    tables.status[0] = INVALID;
+    assert_eq!(drain(6, &mut tables, &mut lent), Ok(()));
+    assert_eq!(not_zero(&lent), [(121, 1)]);
+    assert_eq!(drain(6, &mut tables, &mut lent), Ok(()));
+    assert_eq!(lent, [0; TOTALS]);
+}
+
+#[test]
+fn an_idle_drain_stores_1024_zeros() {
+    let mut lent = [u16::MAX; TOTALS];
+    assert_eq!(drain(6, &mut Tables::new(6), &mut lent), Ok(()));
+    assert_eq!(lent, [0; TOTALS]);
+}
+
+/// 16 bits are enough for a console that has all turns.
+#[test]
+fn a_console_may_have_every_turn() {
+    let turns: Vec<_> = (1..=4096).map(|index| (256 * index, Stood)).collect();
+    let mut tables = to_be_turned(&turns);
+    assert_eq!(totals(4096, &mut tables), [(1, 4096)]);
+}
+
+#[test]
+fn a_drain_refuses_totals_that_are_not_1024_before_it_looks_at_the_form() {
+    for length in [0, 1, 4, 1023, 1025, 2048] {
+        for status in [VALID, 3] {
+            let mut tables = four_changes();
+            tables.status[0] = status;
+            let before = tables.clone();
+            let mut lent = vec![9; length];
+            let answer = drain(6, &mut tables, &mut lent);
+            assert_eq!(answer, Err(Refusal::Length));
+            assert_eq!(lent, vec![9; length]);
+            assert_eq!(tables, before);
+        }
+    }
 }
 
 // Which change has the turn.
@@ -295,7 +441,7 @@ fn a_turn_is_idle_with_all_valid_and_alters_nothing() {
     tables.status[3] = VALID;
     let before = tables.clone();
     assert_eq!(turn(6, &mut tables), Ok(None));
-    assert_eq!(drain(6, &mut tables), Ok(Totals::default()));
+    assert_eq!(totals(6, &mut tables), []);
     assert_eq!(tables, before);
 }
 
@@ -456,11 +602,7 @@ fn a_stood_change_keeps_lists_that_its_program_would_not_give() {
     let mut tables = tables(2, &[0, 1], &changes);
     let mut expected = tables.clone();
     expected.status[1] = VALID;
-    let totals = Totals {
-        stood: 1,
-        ..Totals::default()
-    };
-    assert_eq!(drain(2, &mut tables), Ok(totals));
+    assert_eq!(totals(2, &mut tables), [(81, 1)]);
     assert_eq!(tables, expected);
 }
 
@@ -470,7 +612,7 @@ fn a_valid_withdrawn_change_with_lists_has_no_turn() {
     withdrawn.withdrawn = 1;
     let mut tables = tables(2, &[0], &[withdrawn]);
     let before = tables.clone();
-    assert_eq!(drain(2, &mut tables), Ok(Totals::default()));
+    assert_eq!(totals(2, &mut tables), []);
     assert_eq!(tables, before);
 }
 
@@ -487,7 +629,7 @@ fn only_changed_settings_without_a_later_writer_are_stored_to_a_wrong_view() {
     tables.view.fill(-1);
     let mut expected = tables.view.clone();
     expected[33] = 1;
-    assert_eq!(drain(2, &mut tables).map(|totals| totals.ran), Ok(1));
+    assert_eq!(totals(2, &mut tables), [(40, 1)]);
     assert_eq!(tables.view, expected);
 }
 
@@ -524,7 +666,7 @@ fn slots_behind_shorter_lists_become_0() {
     let mut invalid = change(10, INVALID, &long, &long);
     invalid.program = copy(34, 50);
     let mut tables = tables(2, &[0], &[invalid]);
-    assert_eq!(drain(2, &mut tables).map(|totals| totals.ran), Ok(1));
+    assert_eq!(totals(2, &mut tables), [(40, 1)]);
     let mut expected = Change {
         program: copy(34, 50),
         ..change(10, VALID, &[(34, 1)], &[(50, 1)])
@@ -535,7 +677,7 @@ fn slots_behind_shorter_lists_become_0() {
     );
     tables.status[0] = INVALID;
     tables.withdrawn[0] = 1;
-    assert_eq!(drain(2, &mut tables).map(|totals| totals.cleared), Ok(1));
+    assert_eq!(totals(2, &mut tables), [(42, 1)]);
     expected.withdrawn = 1;
     expected.reads.clear();
     expected.writes.clear();
@@ -549,7 +691,9 @@ fn turn_and_drain_refuse_1_then_2_and_alter_nothing() {
     let broken = tables.clone();
     for (n, refusal) in [(5, Refusal::Length), (6, Refusal::Form)] {
         assert_eq!(turn(n, &mut tables), Err(refusal));
-        assert_eq!(drain(n, &mut tables), Err(refusal));
+        let mut lent = [9; TOTALS];
+        assert_eq!(drain(n, &mut tables, &mut lent), Err(refusal));
+        assert_eq!(lent, [9; TOTALS]);
         assert_eq!(tables, broken);
     }
 }
@@ -557,14 +701,9 @@ fn turn_and_drain_refuse_1_then_2_and_alter_nothing() {
 #[test]
 fn a_drain_of_four_changes() {
     let mut tables = four_changes();
-    let totals = drain(6, &mut tables);
     // Change 20 sets 34 to 9 and has 30 run again; 40 is withdrawn.
-    let expected = Totals {
-        ran: 2,
-        cleared: 1,
-        ..Totals::default()
-    };
-    assert_eq!(totals, Ok(expected));
+    let expected = [(80, 1), (120, 1), (162, 1)];
+    assert_eq!(totals(6, &mut tables), expected);
     assert_eq!(tables.view[34], 9);
     assert_eq!(tables.view[50], 9);
 }

@@ -1,13 +1,13 @@
 //! Drains beside a plain run of the same history.
 
 use crate::history::{
-    assert_drained, changes, dense, drained, long, pass_on, set, stamp, sum_among, take_in, Change,
-    FEW, FULL,
+    assert_drained, changes, dense, drain, drain_outside, drained, long, pass_on, set, stamp,
+    sum_among, take_in, Change, FEW, FULL,
 };
 use crate::measure::{column, measure};
 use comparison::generate::Random;
 use comparison::proved::calls as proved;
-use outside::checker::{self, Totals};
+use comparison::turns::sums;
 use tolbezun::{MAX_CAPACITY, SETTINGS};
 
 /// The setting that half of the changes set and half read.
@@ -174,17 +174,12 @@ impl Case {
         for &timestamp in &self.withdrawn {
             assert_eq!(proved::withdraw(n, &mut tables, timestamp), Ok(()));
         }
-        let outside = (n <= self.outside).then_some(checker::drain);
-        let measured = measure(n, &tables, proved::drain, outside);
+        let outside = (n <= self.outside).then_some(drain_outside);
+        let measured = measure(n, &tables, drain, outside);
         assert_drained(n, &measured.after);
-        let Totals {
-            ran,
-            stood,
-            cleared,
-            faulted,
-        } = measured.answer;
+        let [ran, stood, cleared, faulted] = sums(&measured.answer);
         assert_eq!(faulted, 0);
-        assert!(self.ran.is_none_or(|known| known as u64 == ran));
+        assert!(self.ran.is_none_or(|known| known == ran));
         println!(
             "{:42}{ran:6}{stood:7}{cleared:9}{:11.1}{:12.1}{:9.2}{}{}",
             self.name,

@@ -2,6 +2,8 @@
 
 use comparison::generate::Random;
 use comparison::proved::calls as proved;
+use outside::calls::Refusal;
+use outside::checker::{self, TOTALS};
 use outside::package::{lay_out, Entry, ANSWERS, DONE};
 use std::iter;
 use tolbezun::{program, Instruction, Tables, MAX_CAPACITY, SETTINGS};
@@ -77,8 +79,23 @@ pub fn take_in(n: usize, tables: &mut Tables, changes: &[Change]) {
 /// Tables of capacity `n` that hold these changes, drained.
 pub fn drained(n: usize, changes: &[Change]) -> Tables {
     let mut tables = taken_in(n, changes);
-    assert!(proved::drain(n, &mut tables).is_ok());
+    assert!(drain(n, &mut tables).is_ok());
     tables
+}
+
+/// Drains, and returns the totals.
+pub fn drain(n: usize, tables: &mut Tables) -> Result<[u16; TOTALS], u8> {
+    let mut totals = [u16::MAX; TOTALS];
+    proved::drain(n, tables, &mut totals).map(|()| totals)
+}
+
+/// As [`drain`], by the outside implementation.
+pub fn drain_outside(
+    n: usize,
+    tables: &mut outside::tables::Tables,
+) -> Result<[u16; TOTALS], Refusal> {
+    let mut totals = [u16::MAX; TOTALS];
+    checker::drain(n, tables, &mut totals).map(|()| totals)
 }
 
 /// Panics unless the view is what a plain run leaves.

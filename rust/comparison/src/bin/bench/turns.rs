@@ -1,10 +1,13 @@
 //! Single turns, and a drain without any.
 
-use crate::history::{changes, drained, long, set, stamp, sum, take_in, FEW, READ_BY_LONG, SIZES};
+use crate::history::{
+    changes, drain, drain_outside, drained, long, set, stamp, sum, take_in, FEW, READ_BY_LONG,
+    SIZES,
+};
 use crate::rows::{Rows, COLUMNS};
 use comparison::generate::Random;
 use comparison::proved::calls as proved;
-use outside::checker::{self, Totals, Turn, Turned};
+use outside::checker::{self, Turn, Turned, TOTALS};
 use outside::tables::Status;
 use std::ops::Range;
 use std::slice;
@@ -69,8 +72,8 @@ impl Kind {
         let (turn, _) = rows.row(&name, &tables, proved::turn, checker::turn);
         assert_eq!(turn, None);
         let name = self.row_name("idle, by a drain");
-        let (totals, _) = rows.row(&name, &tables, proved::drain, checker::drain);
-        assert_eq!(totals, Totals::default());
+        let (totals, _) = rows.row(&name, &tables, drain, drain_outside);
+        assert_eq!(totals, [0; TOTALS]);
 
         for (name, rank) in [("the oldest stands", oldest), ("the newest stands", newest)] {
             let mut tables = tables.clone();
@@ -90,7 +93,7 @@ impl Kind {
         self.turn(rows, name, &late(&self.unnamed), oldest, Turned::Ran);
         let name = "the oldest runs, all read it";
         let mut tables = self.turn(rows, name, &late(&self.read), oldest, Turned::Ran);
-        assert!(proved::drain(n, &mut tables).is_ok());
+        assert!(drain(n, &mut tables).is_ok());
         assert_eq!(proved::withdraw(n, &mut tables, stamp(oldest)), Ok(()));
         let name = "the oldest is cleared, all read it";
         self.turn(rows, name, &tables, oldest, Turned::Cleared);
