@@ -1,4 +1,4 @@
--- A drain: turns until idle (document 01, "A turn").
+-- A drain: turns until idle (document 01, "A turn"), and its totals for each console (document 02, R-5).
 use mathlib.Core.Bool.{Bool, cond, _&&_}
 use mathlib.Core.List.{List, [], _∷_}
 use Prim.Native.Nat.{ℕ, zero, suc, _+_, _*_, _/_, _%_, _<_}
