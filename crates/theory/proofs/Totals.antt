@@ -1,21 +1,22 @@
 -- R-5, proved: for each kind the totals of a drain sum to the number of its turns of that kind.
 use mathlib.Core.Path.{_≡_, refl, sym, ap, ap₂, _∙_}
-use mathlib.Core.Bool.{Bool, true, false, cond, not, _&&_, and-true}
+use mathlib.Core.Bool.{Bool, true, false, cond, _&&_, and-true}
 use mathlib.Core.List.{List, [], _∷_}
 use Prim.Native.Nat.{ℕ, zero, suc, _+_, _/_, _%_, _<_, _≤_}
 use native.Mathlib.Omega.{arith}
-use borrow.Author.Tests.{ne-eqb, eqb-true, eqb-false}
+use borrow.Author.Tests.{ne-eqb, eqb-true, eqb-false, not-false}
 use lib.Dec.{eqb}
 use lib.ListN.{length, getD, length-map}
-use Rattle.machine.proofs.Cases.{impossible}
+use Rattle.machine.proofs.Cases.{by-test, both, impossible}
 use Rattle.model.specs.declared.Answer.the-variants as answer
 use Rattle.model.specs.Figure.{Event, eventTimestamp}
 use Rattle.model.specs.Drain.{console, kind, kindTurns, consoleTurns, totalCount, totalPlace, totalAt, totals}
 use Rattle.model.specs.Tables.{Tables}
 use Rattle.model.specs.Form.{lengthsFit, inForm, Formed}
-use Rattle.model.specs.Refusals.{test, firstOf}
-use Rattle.model.specs.Calls.{eventAnswer, TotalsReply, totalsReply, drainWithTotals}
+use Rattle.model.specs.Refusals.{firstOf, wrongLength, notInForm}
+use Rattle.model.specs.Calls.{eventAnswer, TotalsReply, drainWithTotals}
 use Rattle.model.specs.Log.{drainEvents}
+use Rattle.model.proofs.Items.{none-applies}
 use Rattle.model.proofs.Totals.{totals-at, count-within, kind-within}
 use Rattle.theory.specs.Totals.{sumBelow, TotalsSum}
 use Rattle.theory.proofs.AnyTables.{drains-any}
@@ -74,26 +75,27 @@ kind-sums (e ∷ events) =
 
 -- a console's total of a kind
 total-of : (events : List Event) (c k : ℕ) → c < 256 → k < 4 → getD (totals events) (totalPlace c k) 0 ≡ consoleTurns c k events
-total-of events c k small kind =
+total-of events c k small few =
     let of-console : totalPlace c k / 4 ≡ c = omega arith in
     let of-kind : totalPlace c k % 4 ≡ k = omega arith in
     totals-at events (totalPlace c k) (omega arith) ∙ ap₂ (λ (d j : ℕ). consoleTurns d j events) of-console of-kind
 
 -- ---- a drain that is answered done
 
--- none of its tests applies
-none-applies : (lengths lent form : Bool) (done : TotalsReply) (T : Tables) (l : List ℕ) → let r = firstOf (test 1 (not (lengths && lent)) ∷ test 2 (not form) ∷ []) in cond (eqb r 0) done (totalsReply (answer.Refused r) T l) .answer ≡ answer.Done → (lengths ≡ true) × (lent ≡ true) × (form ≡ true)
-none-applies true true true done T l e = (refl, refl, refl)
-none-applies true true false done T l e = impossible (cc)
-none-applies true false form done T l e = impossible (cc)
-none-applies false lent form done T l e = impossible (cc)
+-- the tables are in form and 1,024 totals are lent
+module _ (n : ℕ) (T : Tables) (lent : List ℕ) where
+  abbrev refusal : ℕ
+  refusal = firstOf (wrongLength n T (length lent) totalCount ∷ notInForm n T ∷ [])
 
--- where a drain is answered done, the tables are in form and 1,024 totals are lent
-done-formed : (n : ℕ) (T : Tables) (lent : List ℕ) → drainWithTotals n T lent .answer ≡ answer.Done → Formed n T × (length lent ≡ totalCount)
-unfolding drainWithTotals
-done-formed n T lent e =
-    let t = none-applies (lengthsFit n T) (eqb (length lent) totalCount) (inForm n T) _ T lent e in
-    (record { sized = t .0; form = t .2 }, eqb-true (length lent) totalCount (t .1))
+  done-formed : drainWithTotals n T lent .answer ≡ answer.Done → Formed n T × (length lent ≡ totalCount)
+  unfolding drainWithTotals
+  done-formed e =
+      by-test (λ (r : TotalsReply). r .answer ≡ answer.Done → Formed n T × (length lent ≡ totalCount)) (eqb refusal 0)
+      (λ q a.
+      let none = none-applies (wrongLength n T (length lent) totalCount ∷ notInForm n T ∷ []) (omega arith) (eqb-true refusal 0 q) in
+      let lengths = both (lengthsFit n T) (not-false _ (none .0)) in
+      (record { sized = lengths .0; form = not-false (inForm n T) (none .1 .0) }, eqb-true (length lent) totalCount (lengths .1)))
+      (λ q a. impossible (cc)) e
 
 pub totals-sum : (n : ℕ) (T : Tables) (lent : List ℕ) → drainWithTotals n T lent .answer ≡ answer.Done → TotalsSum n T lent
 totals-sum n T lent e =

@@ -28,7 +28,7 @@ counted-length (turn-answer.Refused r) totals = refl
 module _ (totals : List ℕ) (size : length totals ≡ totalCount) (place m : ℕ) where
   -- a console's turn of a kind, counted now or with the m that follow
   counted-one : (c k : ℕ) → c < 256 → k < 4 → getD (countedAt c k totals) place 0 + m ≡ getD totals place 0 + cond (eqb c (place / 4) && eqb k (place % 4)) (suc m) m
-  counted-one c k small kind =
+  counted-one c k small few =
       by-test (λ (n : ℕ). getD (countedAt c k totals) place 0 + m ≡ getD totals place 0 + n) (eqb c (place / 4) && eqb k (place % 4))
       (λ q.
       let e = both (eqb c (place / 4)) q in
