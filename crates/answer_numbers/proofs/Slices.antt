@@ -13,10 +13,10 @@ use Rattle.model.specs.Figure.{Step, idle, turned}
 use Rattle.model.specs.Form.{lengthsFit, inForm}
 use Rattle.model.specs.Refusals.{test, firstOf}
 use Rattle.model.specs.Tables.{Tables, decode}
-use Rattle.model.specs.Calls.{Given, refused, turnedGiven, Reply, reply, unless, stepReply, roundOf, turn}
+use Rattle.model.specs.Calls.{turnedGiven, Reply, reply, unless, stepReply, roundOf, turn}
 use Rattle.model.proofs.Answers.{by-event}
 use Rattle.answer_numbers.proofs.Numbers.{same-answer, of-call}
-use Rattle.answer_numbers.specs.Numbers.{turnedNumber, answering, Numbered, numbered, givenNumbers, sliceNumbers, turnNumbers}
+use Rattle.answer_numbers.specs.Numbers.{turnedNumber, answering, Numbered, numbered, givenNumbers, turnNumbers}
 
 -- ---- the slice after the stores
 
@@ -50,20 +50,13 @@ turned-fits n T e = subst (λ (r : Reply Turned). turnedNumber (turnedGiven (r .
 
 -- ---- a law for each return
 
-module _ {A : Type 0} (gives : A → Given) (number : Given → ℕ) (stated : ℕ) (slice : List ℕ) (T : Tables) (called : Reply A) where
-  -- the slice has another length
-  other-length : (length slice ≡ stated → ⊥) → reply (givenNumbers number slice (refused 1)) T ≡ sliceNumbers gives number stated slice T called
-  other-length f = rw (ne-eqb (length slice) stated f)
-
-  -- the call is made
-  filled : length slice ≡ stated → {a : A} {U : Tables} {after : Numbered ℕ} → after ≡ givenNumbers number slice (gives a) → reply a U ≡ called → reply after U ≡ sliceNumbers gives number stated slice T called
-  filled e h q = rw (eq-eqb (length slice) stated e) (of-call (answering (λ a. givenNumbers number slice (gives a))) (same-answer h) q)
-
 module _ (n : ℕ) (T : Tables) (slice : List ℕ) where
+  -- the slice has another length
   pub turn-length : (length slice ≡ 2 → ⊥) → reply (numbered 17 slice) T ≡ turnNumbers n T slice
   unfolding turnNumbers
-  turn-length = other-length turnedGiven turnedNumber 2 slice T (turn n T)
+  turn-length f = rw (ne-eqb (length slice) 2 f)
 
+  -- the call is made
   pub turn-done : length slice ≡ 2 → {a : Turned} {U : Tables} {after : Numbered ℕ} → after ≡ givenNumbers turnedNumber slice (turnedGiven a) → reply a U ≡ turn n T → reply after U ≡ turnNumbers n T slice
   unfolding turnNumbers
-  turn-done = filled turnedGiven turnedNumber 2 slice T (turn n T)
+  turn-done e h q = rw (eq-eqb (length slice) 2 e) (of-call (answering (λ a. givenNumbers turnedNumber slice (turnedGiven a))) (same-answer h) q)

@@ -68,13 +68,9 @@ putInto slice (given k values) = map natAbs values ++ drop (length values) slice
 abbrev pub givenNumbers : (Given → ℕ) → List ℕ → Given → Numbered ℕ
 givenNumbers number slice g = numbered (number g) (putInto slice g)
 
--- a slice of another length than stated is refusal 1, tested first
-abbrev pub sliceNumbers : {A : Type 0} → (A → Given) → (Given → ℕ) → ℕ → List ℕ → Tables → Reply A → Reply (Numbered ℕ)
-sliceNumbers gives number stated slice T called =
-    cond (eqb (length slice) stated)
-    (answering (λ a. givenNumbers number slice (gives a)) called)
-    (reply (givenNumbers number slice (refused 1)) T)
-
--- two entries: the timestamp that the answer names and, where it is faulted, the place; idle names none
+-- two entries: the timestamp that the answer names and, where it is faulted, the place; idle names none. A slice of another length is refusal 1, tested first
 unfoldable pub turnNumbers : ℕ → Tables → List ℕ → Reply (Numbered ℕ)
-turnNumbers n T slice = sliceNumbers turnedGiven turnedNumber 2 slice T (turn n T)
+turnNumbers n T slice =
+    cond (eqb (length slice) 2)
+    (answering (λ a. givenNumbers turnedNumber slice (turnedGiven a)) (turn n T))
+    (reply (givenNumbers turnedNumber slice (refused 1)) T)

@@ -45,7 +45,7 @@ pub record Draining (T₀ T : Tables) (counted : List ℕ) : Type 0 where
   pub size : length counted ≡ totalCount
   pub counts : (place : ℕ) → place < totalCount → getD counted place 0 + totalAt place (turnsOf T) ≡ totalAt place (turnsOf T₀)
 
--- totals that are 0 are as many as are lent
+-- 1,024 zeros are as many as the totals
 pub zeros-size : {counted : List ℕ} → counted ≡ replicate totalCount 0 → length counted ≡ totalCount
 zeros-size z = ap length z ∙ length-replicate {A = ℕ} totalCount 0
 

@@ -1,4 +1,4 @@
--- The totals of some turns: how many they are, the one at a place, and that each counts turns of the list.
+-- The totals of some turns: the one at a place, and that each counts turns of the list, which are of four kinds.
 use mathlib.Core.Path.{_≡_, sym, ap, _∙_}
 use mathlib.Core.Bool.{Bool}
 use mathlib.Core.List.{List, [], _∷_}
@@ -10,11 +10,7 @@ use Rattle.machine.proofs.Cases.{by-test}
 use Rattle.model.specs.History.{tabulate}
 use Rattle.model.specs.Figure.{Event, ran, stood, cleared}
 use Rattle.model.specs.Drain.{runKind, kind, countOf, totalCount, totalAt, totals}
-use Rattle.model.proofs.Tabulate.{length-tabulate, getD-tabulate, tabulate-is}
-
-pub totals-length : (events : List Event) → length (totals events) ≡ totalCount
-unfolding totals
-totals-length events = length-tabulate totalCount (λ place. totalAt place events)
+use Rattle.model.proofs.Tabulate.{getD-tabulate, tabulate-is}
 
 pub totals-at : (events : List Event) (place : ℕ) → place < totalCount → getD (totals events) place 0 ≡ totalAt place events
 unfolding totals

@@ -201,7 +201,7 @@ turn n T =
 abbrev pub drainOf : Cabinet → Drain
 drainOf c = drainHistory start (historyOf c) (c .view)
 
--- turns until idle, whatever is lent for the totals
+-- turns until idle: the tables that a drain leaves, whatever is lent for the totals. The call, with its totals, is `drainWithTotals`
 unfoldable pub drain : ℕ → Tables → Reply Answer
 drain n T =
     let c = decode T in

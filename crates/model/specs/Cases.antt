@@ -254,7 +254,7 @@ sample-package =
           ∷ [];
     }
 
--- document 02, R-5: 10 and 266 are of console 10, whose lowest 8 bits they share, and 255 is of console 255: both ran their changes
+-- document 02, R-5: 10 and 266 have the same lowest 8 bits, those of console 10; 255 is of console 255
 two-consoles : Case
 two-consoles =
     record {
