@@ -16,7 +16,7 @@
 /* The tables of one cabinet, for 128 changes. */
 #define N 128
 static uint16_t held[1], order[N], status[N], withdrawn[N], length[N], read_count[N], write_count[N];
-static uint16_t read_settings[32 * N], write_settings[32 * N];
+static uint16_t read_settings[32 * N], write_settings[32 * N], versions[N];
 static uint64_t timestamps[N];
 static uint8_t programs[256 * N];
 static int32_t seen_values[32 * N], written_values[32 * N], view[1024];
@@ -24,7 +24,7 @@ static int32_t seen_values[32 * N], written_values[32 * N], view[1024];
 #define TABLES                                                                                      \
     N, held, 1, timestamps, N, order, N, status, N, withdrawn, N, length, N, programs, 256 * N,     \
         read_count, N, write_count, N, read_settings, 32 * N, seen_values, 32 * N, write_settings,  \
-        32 * N, written_values, 32 * N, view, 1024
+        32 * N, written_values, 32 * N, view, 1024, versions, N
 
 /* r0 = 400; power left = r0 */
 static const uint8_t budget_400[] = {
@@ -68,10 +68,11 @@ static void show(const char *when)
 int main(void)
 {
     tolbezun_set_up(TABLES);
-    tolbezun_take_in(TABLES, 10, budget_400, sizeof budget_400);
-    tolbezun_take_in(TABLES, 30, take_300, sizeof take_300);
+    /* All three have version 0. */
+    tolbezun_take_in(TABLES, 10, 0, budget_400, sizeof budget_400);
+    tolbezun_take_in(TABLES, 30, 0, take_300, sizeof take_300);
     show("10 gives 400, 30 takes 300");
-    tolbezun_take_in(TABLES, 20, take_200, sizeof take_200);
+    tolbezun_take_in(TABLES, 20, 0, take_200, sizeof take_200);
     show("20 takes 200, late");
     tolbezun_withdraw(TABLES, 20);
     show("20 is withdrawn");

@@ -28,6 +28,7 @@
  *   write_settings  32 x N entries: the settings written
  *   written_values  32 x N entries: the values written
  *   view            1,024 entries: the current value of each setting
+ *   versions        N entries: the version of each change, 0 or 1, which says by what rules it runs
  *
  * Set up fills the tables; after that only these functions write them. A refused call alters nothing.
  */
@@ -41,7 +42,7 @@
 extern "C" {
 #endif
 
-/* Why a call is turned down. The first that applies is the answer. */
+/* Why a call is turned down, in checking order. The first that applies is the answer. */
 enum tolbezun_refusal {
     TOLBEZUN_LENGTH = 1,         /* a lent slice has another length than stated, or n is outside 1 to 4,096 */
     TOLBEZUN_FORM = 2,           /* the tables are not in form */
@@ -49,8 +50,9 @@ enum tolbezun_refusal {
     TOLBEZUN_TIMESTAMP = 4,      /* the timestamp is 0 or 2^64 - 1; value as of allows 2^64 - 1 */
     TOLBEZUN_SETTING = 5,        /* the setting number is above 1,023 */
     TOLBEZUN_PROGRAM_LENGTH = 6, /* the program is over 256 bytes or no multiple of 8 */
+    TOLBEZUN_VERSION = 13,       /* the version is above 1 */
     TOLBEZUN_INSTRUCTION = 7,    /* an instruction is not in the table, or a part of it is wrong */
-    TOLBEZUN_OTHER_PROGRAM = 8,  /* the timestamp is held with another program */
+    TOLBEZUN_OTHER_PROGRAM = 8,  /* the timestamp is held with another program or version */
     TOLBEZUN_FULL = 9,           /* the held count equals n and the timestamp is not held */
     TOLBEZUN_NOT_HELD = 10,      /* the timestamp is not held */
     TOLBEZUN_WITHDRAWN = 11,     /* the change is withdrawn already */
@@ -77,16 +79,22 @@ uint8_t tolbezun_set_up(
     int32_t *seen_values, size_t seen_values_len,
     uint16_t *write_settings, size_t write_settings_len,
     int32_t *written_values, size_t written_values_len,
-    int32_t *view, size_t view_len);
+    int32_t *view, size_t view_len,
+    uint16_t *versions, size_t versions_len);
 
 /*
  * Takes in a change: the next place, New, not withdrawn, lists empty.
  *
  * timestamp       1 to 2^64 - 2
+ * version         0 or 1: the rules that the program runs by. A run of version 0 faults where it reads
+ *                 a setting that it has written, and where it writes one twice. A run of version 1
+ *                 reads the value that it has written, which enters no read list, and a second write
+ *                 replaces the value of the first, in its place in the write list
  * program         its bytes, 8 an instruction; program_len is their number, 0 to 256
  *
- * Alters held, timestamps, order, length and programs. Answers 0 done, 255 already held (the same
- * timestamp with the same program; nothing is altered) or refusal 1, 2, 4, 6, 7, 8 or 9.
+ * Alters held, timestamps, order, length, programs and versions. Answers 0 done, 255 already held (the
+ * same timestamp with the same version and program; nothing is altered) or refusal 1, 2, 4, 6, 13, 7,
+ * 8 or 9.
  */
 uint8_t tolbezun_take_in(
     size_t n,
@@ -104,7 +112,9 @@ uint8_t tolbezun_take_in(
     const uint16_t *write_settings, size_t write_settings_len,
     const int32_t *written_values, size_t written_values_len,
     const int32_t *view, size_t view_len,
+    uint16_t *versions, size_t versions_len,
     uint64_t timestamp,
+    uint16_t version,
     const uint8_t *program, size_t program_len);
 
 /*
@@ -130,17 +140,21 @@ uint8_t tolbezun_withdraw(
     const uint16_t *write_settings, size_t write_settings_len,
     const int32_t *written_values, size_t written_values_len,
     const int32_t *view, size_t view_len,
+    const uint16_t *versions, size_t versions_len,
     uint64_t timestamp);
 
 /*
  * Takes in a package: its entries in order, each as take in or withdraw would.
  *
- * package         its bytes; package_len is their number
+ * package         its bytes; package_len is their number. First comes the number of entries (2 bytes, 0
+ *                 to 512); then for each its timestamp (8), kind (0 change, 1 withdrawal), instruction
+ *                 count (0 to 32), version (0 or 1) and a zero byte, where a withdrawal has count and
+ *                 version 0; then the programs in that order. Numbers are low byte first
  * answers         512 bytes; each entry's gets 0 done, 255 already held or its refusal, later ones
  *                 keep their contents
  *
- * Alters held, timestamps, order, status, withdrawn, length, programs and answers. Answers 0 done or
- * refusal 1, 2 or 3. A refused entry stops nothing.
+ * Alters held, timestamps, order, status, withdrawn, length, programs, versions and answers. Answers 0
+ * done or refusal 1, 2 or 3. A refused entry stops nothing.
  */
 uint8_t tolbezun_take_in_package(
     size_t n,
@@ -158,6 +172,7 @@ uint8_t tolbezun_take_in_package(
     const uint16_t *write_settings, size_t write_settings_len,
     const int32_t *written_values, size_t written_values_len,
     const int32_t *view, size_t view_len,
+    uint16_t *versions, size_t versions_len,
     const uint8_t *package, size_t package_len,
     uint8_t *answers, size_t answers_len);
 
@@ -187,6 +202,7 @@ uint8_t tolbezun_turn(
     uint16_t *write_settings, size_t write_settings_len,
     int32_t *written_values, size_t written_values_len,
     int32_t *view, size_t view_len,
+    const uint16_t *versions, size_t versions_len,
     uint64_t *values, size_t values_len);
 
 /*
@@ -214,6 +230,7 @@ uint8_t tolbezun_drain(
     uint16_t *write_settings, size_t write_settings_len,
     int32_t *written_values, size_t written_values_len,
     int32_t *view, size_t view_len,
+    const uint16_t *versions, size_t versions_len,
     uint16_t *totals, size_t totals_len);
 
 /*
@@ -239,6 +256,7 @@ int64_t tolbezun_current_value(
     const uint16_t *write_settings, size_t write_settings_len,
     const int32_t *written_values, size_t written_values_len,
     const int32_t *view, size_t view_len,
+    const uint16_t *versions, size_t versions_len,
     size_t setting);
 
 /*
@@ -265,6 +283,7 @@ int64_t tolbezun_value_as_of(
     const uint16_t *write_settings, size_t write_settings_len,
     const int32_t *written_values, size_t written_values_len,
     const int32_t *view, size_t view_len,
+    const uint16_t *versions, size_t versions_len,
     uint64_t timestamp,
     size_t setting);
 
@@ -292,6 +311,7 @@ uint32_t tolbezun_standing(
     const uint16_t *write_settings, size_t write_settings_len,
     const int32_t *written_values, size_t written_values_len,
     const int32_t *view, size_t view_len,
+    const uint16_t *versions, size_t versions_len,
     uint64_t timestamp);
 
 /*
@@ -317,12 +337,14 @@ uint8_t tolbezun_plain_run(
     const uint16_t *write_settings, size_t write_settings_len,
     const int32_t *written_values, size_t written_values_len,
     const int32_t *view, size_t view_len,
+    const uint16_t *versions, size_t versions_len,
     int32_t *settings, size_t settings_len);
 
 /*
- * Writes all held changes by rising timestamp, then the withdrawals of the withdrawn ones by rising
- * timestamp, as one package, in the layout that take in a package reads. Taken into tables just set up
- * that have room for the changes, and drained, it gives what these tables have once they are drained.
+ * Writes all held changes by rising timestamp, each with its version, then the withdrawals of the
+ * withdrawn ones by rising timestamp, as one package, in the layout that take in a package reads. Taken
+ * into tables just set up that have room for the changes, and drained, it gives what these tables have
+ * once they are drained.
  *
  * package         its first bytes get the package, later ones keep their contents; package_len is
  *                 their number, which may be any: a package has at most 65,535 bytes
@@ -347,6 +369,7 @@ uint32_t tolbezun_package_out(
     const uint16_t *write_settings, size_t write_settings_len,
     const int32_t *written_values, size_t written_values_len,
     const int32_t *view, size_t view_len,
+    const uint16_t *versions, size_t versions_len,
     uint8_t *package, size_t package_len);
 
 /*

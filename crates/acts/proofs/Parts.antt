@@ -7,6 +7,7 @@ use native.Mathlib.Omega.{arith}
 use lib.IntN.{ℤ}
 use lib.ListN.{length, getD}
 use Rattle.machine.specs.Settings.{Environment}
+use Rattle.machine.specs.Instruction.{code}
 use Rattle.machine.specs.Form.{wellFormed}
 use Rattle.machine.specs.Run.{run}
 use Rattle.run_record.specs.declared.Run.{Run}
@@ -40,5 +41,5 @@ module _ {k : ℕ} {order lengths programs : List ℕ} (r : Runnable k order len
   program-runs = (omega (arith, part-length 256 place (8 * getD lengths place 0) programs (omega (arith, r .at, r .blocks, r .short)), r .short), ap wellFormed program-part ∙ r .formed)
 
 -- a run of the program that was lent is a run of the place's
-pub run-of : {r : Run} {l : Lists} (env : Environment) {p p' : List ℕ} → p ≡ p' → Ran r l (run env p) → Ran r l (run env p')
-run-of {r} {l} env e q = subst (λ (p : List ℕ). Ran r l (run env p)) e q
+pub run-of : {r : Run} {l : Lists} (env : Environment) (version : ℕ) {p p' : List ℕ} → p ≡ p' → Ran r l (run env (code version p)) → Ran r l (run env (code version p'))
+run-of {r} {l} env version e q = subst (λ (p : List ℕ). Ran r l (run env (code version p))) e q

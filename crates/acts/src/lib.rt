@@ -8,6 +8,7 @@ use values::seen_hold;
 ghost use mathlib.Core.Path.{_≡_};
 ghost use lib.ListN.{length, getD};
 ghost use Rattle.machine.specs.Settings.{entries};
+ghost use Rattle.machine.specs.Instruction.{code};
 ghost use Rattle.machine.specs.Run.{run};
 ghost use Rattle.run_record.specs.Record.{lists, Sized, Ran};
 ghost use Rattle.model.specs.History.{allHold};
@@ -73,8 +74,9 @@ pub fn decide(
     Act::Run
 }
 
-// The run of the change at a position, on the values as of it.
+// The run of the change at a position by the rules of its version, on the values as of it.
 fn run_change(
+    version: u16,
     k: usize,
     order: &[u16],
     lengths: &[u16],
@@ -96,13 +98,14 @@ fn run_change(
     ensures { λ r. ⌜ (let env = valuesBelow (now (order .entry)) (now (writes .entry)) (now (targets .entry)) (now (written .entry)) k in
         Ran r
         (lists (now («new_sources» .exit)) (now («new_seen» .exit)) (now («new_targets» .exit)) (now («new_written» .exit)))
-        (run env (programIn (now (lengths .entry)) (now (programs .entry)) (getD (now (order .entry)) k 0)))
+        (run env (code version (programIn (now (lengths .entry)) (now (programs .entry)) (getD (now (order .entry)) k 0))))
         × Looked env (now (known .entry)) (now (known .exit)) (now (before .exit)) (now (after .exit))) ⌝ }
 {
     let place = order[k] as usize;
     let begin = 256 * place;
     let end = begin + 8 * (lengths[place] as usize);
     run_at(
+        version,
         &programs[begin..end],
         k,
         order,
@@ -122,6 +125,7 @@ fn run_change(
 // The new lists of a change that does not stand: none where it is cleared, else those of its run.
 pub fn new_lists(
     act: Act,
+    version: u16,
     k: usize,
     order: &[u16],
     lengths: &[u16],
@@ -143,11 +147,12 @@ pub fn new_lists(
     ensures { λ r. ⌜ (let env = valuesBelow (now (order .entry)) (now (writes .entry)) (now (targets .entry)) (now (written .entry)) k in
         Made act r
         (lists (now («new_sources» .exit)) (now («new_seen» .exit)) (now («new_targets» .exit)) (now («new_written» .exit)))
-        (run env (programIn (now (lengths .entry)) (now (programs .entry)) (getD (now (order .entry)) k 0)))
+        (run env (code version (programIn (now (lengths .entry)) (now (programs .entry)) (getD (now (order .entry)) k 0))))
         × Looked env (now (known .entry)) (now (known .exit)) (now (before .exit)) (now (after .exit))) ⌝ }
 {
     match act {
         Act::Run => run_change(
+            version,
             k,
             order,
             lengths,
@@ -163,8 +168,8 @@ pub fn new_lists(
             new_targets,
             new_written,
         ),
-        Act::Clear => Run::new(),
-        Act::Stand => Run::new(),
+        Act::Clear => Run::new(version),
+        Act::Stand => Run::new(version),
     }
 }
 

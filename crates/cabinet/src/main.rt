@@ -21,6 +21,7 @@ fn main() {
     let mut targets = [0u16; 4096];
     let mut written = [0i32; 4096];
     let mut view = [0i32; 1024];
+    let mut versions = [0u16; 128];
     let mut answers = [0u8; 512];
     let mut text = [0u8; 131072];
     let end = put_listing(
@@ -39,6 +40,7 @@ fn main() {
         &mut targets,
         &mut written,
         &mut view,
+        &mut versions,
         &mut answers,
         &mut text,
     );

@@ -26,12 +26,13 @@ pub fn turn(
     targets: &mut [u16],
     written: &mut [i32],
     view: &mut [i32],
+    versions: &[u16],
 ) -> Turned
     ensures { λ r. ⌜
         (let T =
         tables (now (held .entry)) (now (timestamps .entry)) (now (order .entry)) (now (status .entry)) (now (withdrawn .entry))
         (now (lengths .entry)) (now (programs .entry)) (now (reads .entry)) (now (writes .entry)) (now (sources .entry))
-        (now (seen .entry)) (now (targets .entry)) (now (written .entry)) (now (view .entry)) in
+        (now (seen .entry)) (now (targets .entry)) (now (written .entry)) (now (view .entry)) (now (versions .entry)) in
         reply r
         (withTurn T (now (status .exit)) (now (reads .exit)) (now (writes .exit)) (now (sources .exit)) (now (seen .exit))
         (now (targets .exit)) (now (written .exit)) (now (view .exit)))
@@ -54,6 +55,7 @@ pub fn turn(
         targets,
         written,
         view,
+        versions,
     );
     if refusal != 0 {
         return Turned::Refused(refusal);
@@ -73,6 +75,7 @@ pub fn turn(
         targets,
         written,
         view,
+        versions,
     )
 }
 
@@ -93,13 +96,14 @@ pub fn drain(
     targets: &mut [u16],
     written: &mut [i32],
     view: &mut [i32],
+    versions: &[u16],
     totals: &mut [u16],
 ) -> Answer
     ensures { λ r. ⌜
         (let T =
         tables (now (held .entry)) (now (timestamps .entry)) (now (order .entry)) (now (status .entry)) (now (withdrawn .entry))
         (now (lengths .entry)) (now (programs .entry)) (now (reads .entry)) (now (writes .entry)) (now (sources .entry))
-        (now (seen .entry)) (now (targets .entry)) (now (written .entry)) (now (view .entry)) in
+        (now (seen .entry)) (now (targets .entry)) (now (written .entry)) (now (view .entry)) (now (versions .entry)) in
         totalsReply r
         (withTurn T (now (status .exit)) (now (reads .exit)) (now (writes .exit)) (now (sources .exit)) (now (seen .exit))
         (now (targets .exit)) (now (written .exit)) (now (view .exit)))
@@ -126,6 +130,7 @@ pub fn drain(
         targets,
         written,
         view,
+        versions,
     );
     if refusal != 0 {
         return Answer::Refused(refusal);
@@ -146,6 +151,7 @@ pub fn drain(
         targets,
         written,
         view,
+        versions,
         totals,
     );
     Answer::Done

@@ -37,6 +37,7 @@ fn pass_at(
     targets: &mut [u16],
     written: &mut [i32],
     view: &mut [i32],
+    versions: &[u16],
     before: &mut [i32; 1024],
     after: &mut [i32; 1024],
     known: &mut [u8; 1024],
@@ -47,14 +48,14 @@ fn pass_at(
     requires { ⌜
         (let T =
         tables (now held) (now timestamps) (now order) (now status) (now withdrawn) (now lengths) (now programs) (now reads)
-        (now writes) (now sources) (now seen) (now targets) (now written) (now view) in
+        (now writes) (now sources) (now seen) (now targets) (now written) (now view) (now versions) in
         (k < heldCount T) × Going k T (now known) (now before) (now after) (now readers) (now writers) (now settled))
         ⌝ }
     ensures { λ r. ⌜
         (let T =
         tables (now (held .entry)) (now (timestamps .entry)) (now (order .entry)) (now (status .entry)) (now (withdrawn .entry))
         (now (lengths .entry)) (now (programs .entry)) (now (reads .entry)) (now (writes .entry)) (now (sources .entry))
-        (now (seen .entry)) (now (targets .entry)) (now (written .entry)) (now (view .entry)) in
+        (now (seen .entry)) (now (targets .entry)) (now (written .entry)) (now (view .entry)) (now (versions .entry)) in
         let U =
         withTurn T (now (status .exit)) (now (reads .exit)) (now (writes .exit)) (now (sources .exit)) (now (seen .exit))
         (now (targets .exit)) (now (written .exit)) (now (view .exit)) in
@@ -85,6 +86,7 @@ fn pass_at(
         targets,
         written,
         view,
+        versions,
         before,
         after,
         known,
@@ -112,19 +114,20 @@ fn turn_from(
     targets: &mut [u16],
     written: &mut [i32],
     view: &mut [i32],
+    versions: &[u16],
     totals: &mut [u16],
 )
     requires { ⌜
         (let T =
         tables (now held) (now timestamps) (now order) (now status) (now withdrawn) (now lengths) (now programs) (now reads)
-        (now writes) (now sources) (now seen) (now targets) (now written) (now view) in
+        (now writes) (now sources) (now seen) (now targets) (now written) (now view) (now versions) in
         Formed (length (T .order)) T × (waitingIn T ≡ some first) × (now totals ≡ replicate totalCount 0))
         ⌝ }
     ensures { λ _. ⌜
         (let T =
         tables (now (held .entry)) (now (timestamps .entry)) (now (order .entry)) (now (status .entry)) (now (withdrawn .entry))
         (now (lengths .entry)) (now (programs .entry)) (now (reads .entry)) (now (writes .entry)) (now (sources .entry))
-        (now (seen .entry)) (now (targets .entry)) (now (written .entry)) (now (view .entry)) in
+        (now (seen .entry)) (now (targets .entry)) (now (written .entry)) (now (view .entry)) (now (versions .entry)) in
         reply (now (totals .exit))
         (withTurn T (now (status .exit)) (now (reads .exit)) (now (writes .exit)) (now (sources .exit)) (now (seen .exit))
         (now (targets .exit)) (now (written .exit)) (now (view .exit)))
@@ -179,6 +182,7 @@ fn turn_from(
             targets,
             written,
             view,
+            versions,
             &mut before,
             &mut after,
             &mut known,
@@ -207,19 +211,20 @@ pub fn turn_all(
     targets: &mut [u16],
     written: &mut [i32],
     view: &mut [i32],
+    versions: &[u16],
     totals: &mut [u16],
 )
     requires { ⌜
         Formed (length (now order))
         (tables (now held) (now timestamps) (now order) (now status) (now withdrawn) (now lengths) (now programs) (now reads)
-        (now writes) (now sources) (now seen) (now targets) (now written) (now view))
+        (now writes) (now sources) (now seen) (now targets) (now written) (now view) (now versions))
         × (now totals ≡ replicate totalCount 0)
         ⌝ }
     ensures { λ _. ⌜
         (let T =
         tables (now (held .entry)) (now (timestamps .entry)) (now (order .entry)) (now (status .entry)) (now (withdrawn .entry))
         (now (lengths .entry)) (now (programs .entry)) (now (reads .entry)) (now (writes .entry)) (now (sources .entry))
-        (now (seen .entry)) (now (targets .entry)) (now (written .entry)) (now (view .entry)) in
+        (now (seen .entry)) (now (targets .entry)) (now (written .entry)) (now (view .entry)) (now (versions .entry)) in
         reply (now (totals .exit))
         (withTurn T (now (status .exit)) (now (reads .exit)) (now (writes .exit)) (now (sources .exit)) (now (seen .exit))
         (now (targets .exit)) (now (written .exit)) (now (view .exit)))
@@ -244,6 +249,7 @@ pub fn turn_all(
             targets,
             written,
             view,
+            versions,
             totals,
         ),
         Found::Nothing => {}

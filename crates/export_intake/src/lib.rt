@@ -5,6 +5,7 @@ use intake::take_in_package;
 use intake::withdraw;
 use setup::set_up;
 ghost use mathlib.Core.Path.{_≡_};
+ghost use Rattle.machine.specs.Instruction.{code};
 ghost use Rattle.model.specs.Tables.{tables, withTaking, withWithdrawing, withPackage};
 ghost use Rattle.model.specs.Calls.{answerNumber, reply, setUp, takeIn, withdraw, takeInPackage};
 ghost use Rattle.answer_numbers.specs.Numbers.{answering, numbered, packageNumbers};
@@ -27,16 +28,17 @@ pub extern "C" fn tolbezun_set_up(
     targets: &mut [u16],
     written: &mut [i32],
     view: &mut [i32],
+    versions: &mut [u16],
 ) -> u8
     ensures { λ r. ⌜
         (let T =
         tables (now (held .entry)) (now (timestamps .entry)) (now (order .entry)) (now (status .entry)) (now (withdrawn .entry))
         (now (lengths .entry)) (now (programs .entry)) (now (reads .entry)) (now (writes .entry)) (now (sources .entry))
-        (now (seen .entry)) (now (targets .entry)) (now (written .entry)) (now (view .entry)) in
+        (now (seen .entry)) (now (targets .entry)) (now (written .entry)) (now (view .entry)) (now (versions .entry)) in
         reply r
         (tables (now (held .exit)) (now (timestamps .exit)) (now (order .exit)) (now (status .exit)) (now (withdrawn .exit))
         (now (lengths .exit)) (now (programs .exit)) (now (reads .exit)) (now (writes .exit)) (now (sources .exit))
-        (now (seen .exit)) (now (targets .exit)) (now (written .exit)) (now (view .exit)))
+        (now (seen .exit)) (now (targets .exit)) (now (written .exit)) (now (view .exit)) (now (versions .exit)))
         ≡ answering answerNumber (setUp n T))
         ⌝ }
 {
@@ -56,6 +58,7 @@ pub extern "C" fn tolbezun_set_up(
         targets,
         written,
         view,
+        versions,
     ))
 }
 
@@ -77,17 +80,19 @@ pub extern "C" fn tolbezun_take_in(
     targets: &[u16],
     written: &[i32],
     view: &[i32],
+    versions: &mut [u16],
     timestamp: u64,
+    version: u16,
     program: &[u8],
 ) -> u8
     ensures { λ r. ⌜
         (let T =
         tables (now (held .entry)) (now (timestamps .entry)) (now (order .entry)) (now (status .entry)) (now (withdrawn .entry))
         (now (lengths .entry)) (now (programs .entry)) (now (reads .entry)) (now (writes .entry)) (now (sources .entry))
-        (now (seen .entry)) (now (targets .entry)) (now (written .entry)) (now (view .entry)) in
+        (now (seen .entry)) (now (targets .entry)) (now (written .entry)) (now (view .entry)) (now (versions .entry)) in
         reply r
-        (withTaking T (now (held .exit)) (now (timestamps .exit)) (now (order .exit)) (now (lengths .exit)) (now (programs .exit)))
-        ≡ answering answerNumber (takeIn n T timestamp (now (program .entry))))
+        (withTaking T (now (held .exit)) (now (timestamps .exit)) (now (order .exit)) (now (lengths .exit)) (now (programs .exit)) (now (versions .exit)))
+        ≡ answering answerNumber (takeIn n T timestamp (code version (now (program .entry)))))
         ⌝ }
 {
     answer_number(take_in(
@@ -106,7 +111,9 @@ pub extern "C" fn tolbezun_take_in(
         targets,
         written,
         view,
+        versions,
         timestamp,
+        version,
         program,
     ))
 }
@@ -129,13 +136,14 @@ pub extern "C" fn tolbezun_withdraw(
     targets: &[u16],
     written: &[i32],
     view: &[i32],
+    versions: &[u16],
     timestamp: u64,
 ) -> u8
     ensures { λ r. ⌜
         (let T =
         tables (now (held .entry)) (now (timestamps .entry)) (now (order .entry)) (now (status .entry)) (now (withdrawn .entry))
         (now (lengths .entry)) (now (programs .entry)) (now (reads .entry)) (now (writes .entry)) (now (sources .entry))
-        (now (seen .entry)) (now (targets .entry)) (now (written .entry)) (now (view .entry)) in
+        (now (seen .entry)) (now (targets .entry)) (now (written .entry)) (now (view .entry)) (now (versions .entry)) in
         reply r
         (withWithdrawing T (now (status .exit)) (now (withdrawn .exit)))
         ≡ answering answerNumber (withdraw n T timestamp))
@@ -157,6 +165,7 @@ pub extern "C" fn tolbezun_withdraw(
         targets,
         written,
         view,
+        versions,
         timestamp,
     ))
 }
@@ -179,6 +188,7 @@ pub extern "C" fn tolbezun_take_in_package(
     targets: &[u16],
     written: &[i32],
     view: &[i32],
+    versions: &mut [u16],
     bytes: &[u8],
     answers: &mut [u8],
 ) -> u8
@@ -186,10 +196,10 @@ pub extern "C" fn tolbezun_take_in_package(
         (let T =
         tables (now (held .entry)) (now (timestamps .entry)) (now (order .entry)) (now (status .entry)) (now (withdrawn .entry))
         (now (lengths .entry)) (now (programs .entry)) (now (reads .entry)) (now (writes .entry)) (now (sources .entry))
-        (now (seen .entry)) (now (targets .entry)) (now (written .entry)) (now (view .entry)) in
+        (now (seen .entry)) (now (targets .entry)) (now (written .entry)) (now (view .entry)) (now (versions .entry)) in
         reply (numbered r (now (answers .exit)))
         (withPackage T (now (held .exit)) (now (timestamps .exit)) (now (order .exit)) (now (status .exit))
-        (now (withdrawn .exit)) (now (lengths .exit)) (now (programs .exit)))
+        (now (withdrawn .exit)) (now (lengths .exit)) (now (programs .exit)) (now (versions .exit)))
         ≡ packageNumbers (takeInPackage n T (now (bytes .entry)) (now (answers .entry))))
         ⌝ }
 {
@@ -209,6 +219,7 @@ pub extern "C" fn tolbezun_take_in_package(
         targets,
         written,
         view,
+        versions,
         bytes,
         answers,
     ))

@@ -32,13 +32,14 @@ pub extern "C" fn tolbezun_current_value(
     targets: &[u16],
     written: &[i32],
     view: &[i32],
+    versions: &[u16],
     setting: usize,
 ) -> i64
     ensures { λ r. ⌜
         (let T =
         tables (now (held .entry)) (now (timestamps .entry)) (now (order .entry)) (now (status .entry)) (now (withdrawn .entry))
         (now (lengths .entry)) (now (programs .entry)) (now (reads .entry)) (now (writes .entry)) (now (sources .entry))
-        (now (seen .entry)) (now (targets .entry)) (now (written .entry)) (now (view .entry)) in
+        (now (seen .entry)) (now (targets .entry)) (now (written .entry)) (now (view .entry)) (now (versions .entry)) in
         r ≡ valueNumber (valueGiven (currentValue n T setting)))
         ⌝ }
 {
@@ -58,6 +59,7 @@ pub extern "C" fn tolbezun_current_value(
         targets,
         written,
         view,
+        versions,
         setting,
     ))
 }
@@ -80,6 +82,7 @@ pub extern "C" fn tolbezun_value_as_of(
     targets: &[u16],
     written: &[i32],
     view: &[i32],
+    versions: &[u16],
     timestamp: u64,
     setting: usize,
 ) -> i64
@@ -87,7 +90,7 @@ pub extern "C" fn tolbezun_value_as_of(
         (let T =
         tables (now (held .entry)) (now (timestamps .entry)) (now (order .entry)) (now (status .entry)) (now (withdrawn .entry))
         (now (lengths .entry)) (now (programs .entry)) (now (reads .entry)) (now (writes .entry)) (now (sources .entry))
-        (now (seen .entry)) (now (targets .entry)) (now (written .entry)) (now (view .entry)) in
+        (now (seen .entry)) (now (targets .entry)) (now (written .entry)) (now (view .entry)) (now (versions .entry)) in
         r ≡ valueNumber (valueGiven (valueAsOf n T timestamp setting)))
         ⌝ }
 {
@@ -107,6 +110,7 @@ pub extern "C" fn tolbezun_value_as_of(
         targets,
         written,
         view,
+        versions,
         timestamp,
         setting,
     ))
@@ -130,13 +134,14 @@ pub extern "C" fn tolbezun_standing(
     targets: &[u16],
     written: &[i32],
     view: &[i32],
+    versions: &[u16],
     timestamp: u64,
 ) -> u32
     ensures { λ r. ⌜
         (let T =
         tables (now (held .entry)) (now (timestamps .entry)) (now (order .entry)) (now (status .entry)) (now (withdrawn .entry))
         (now (lengths .entry)) (now (programs .entry)) (now (reads .entry)) (now (writes .entry)) (now (sources .entry))
-        (now (seen .entry)) (now (targets .entry)) (now (written .entry)) (now (view .entry)) in
+        (now (seen .entry)) (now (targets .entry)) (now (written .entry)) (now (view .entry)) (now (versions .entry)) in
         r ≡ standingNumber (standingGiven (standing n T timestamp)))
         ⌝ }
 {
@@ -156,6 +161,7 @@ pub extern "C" fn tolbezun_standing(
         targets,
         written,
         view,
+        versions,
         timestamp,
     ))
 }
@@ -178,13 +184,14 @@ pub extern "C" fn tolbezun_plain_run(
     targets: &[u16],
     written: &[i32],
     view: &[i32],
+    versions: &[u16],
     settings: &mut [i32],
 ) -> u8
     ensures { λ r. ⌜
         (let T =
         tables (now (held .entry)) (now (timestamps .entry)) (now (order .entry)) (now (status .entry)) (now (withdrawn .entry))
         (now (lengths .entry)) (now (programs .entry)) (now (reads .entry)) (now (writes .entry)) (now (sources .entry))
-        (now (seen .entry)) (now (targets .entry)) (now (written .entry)) (now (view .entry)) in
+        (now (seen .entry)) (now (targets .entry)) (now (written .entry)) (now (view .entry)) (now (versions .entry)) in
         numbered r (now (settings .exit)) ≡ plainNumbers (plainRun n T (now (settings .entry))))
         ⌝ }
 {
@@ -204,6 +211,7 @@ pub extern "C" fn tolbezun_plain_run(
         targets,
         written,
         view,
+        versions,
         settings,
     ))
 }
@@ -226,13 +234,14 @@ pub extern "C" fn tolbezun_package_out(
     targets: &[u16],
     written: &[i32],
     view: &[i32],
+    versions: &[u16],
     bytes: &mut [u8],
 ) -> u32
     ensures { λ r. ⌜
         (let T =
         tables (now (held .entry)) (now (timestamps .entry)) (now (order .entry)) (now (status .entry)) (now (withdrawn .entry))
         (now (lengths .entry)) (now (programs .entry)) (now (reads .entry)) (now (writes .entry)) (now (sources .entry))
-        (now (seen .entry)) (now (targets .entry)) (now (written .entry)) (now (view .entry)) in
+        (now (seen .entry)) (now (targets .entry)) (now (written .entry)) (now (view .entry)) (now (versions .entry)) in
         numbered r (now (bytes .exit)) ≡ packedNumbers (packageOut n T (now (bytes .entry))))
         ⌝ }
 {
@@ -252,6 +261,7 @@ pub extern "C" fn tolbezun_package_out(
         targets,
         written,
         view,
+        versions,
         bytes,
     ))
 }

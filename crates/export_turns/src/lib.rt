@@ -26,13 +26,14 @@ pub extern "C" fn tolbezun_turn(
     targets: &mut [u16],
     written: &mut [i32],
     view: &mut [i32],
+    versions: &[u16],
     values: &mut [u64],
 ) -> u8
     ensures { λ r. ⌜
         (let T =
         tables (now (held .entry)) (now (timestamps .entry)) (now (order .entry)) (now (status .entry)) (now (withdrawn .entry))
         (now (lengths .entry)) (now (programs .entry)) (now (reads .entry)) (now (writes .entry)) (now (sources .entry))
-        (now (seen .entry)) (now (targets .entry)) (now (written .entry)) (now (view .entry)) in
+        (now (seen .entry)) (now (targets .entry)) (now (written .entry)) (now (view .entry)) (now (versions .entry)) in
         reply (numbered r (now (values .exit)))
         (withTurn T (now (status .exit)) (now (reads .exit)) (now (writes .exit)) (now (sources .exit)) (now (seen .exit))
         (now (targets .exit)) (now (written .exit)) (now (view .exit)))
@@ -58,6 +59,7 @@ pub extern "C" fn tolbezun_turn(
         targets,
         written,
         view,
+        versions,
     );
     put_turned(answer, values)
 }
@@ -80,13 +82,14 @@ pub extern "C" fn tolbezun_drain(
     targets: &mut [u16],
     written: &mut [i32],
     view: &mut [i32],
+    versions: &[u16],
     totals: &mut [u16],
 ) -> u8
     ensures { λ r. ⌜
         (let T =
         tables (now (held .entry)) (now (timestamps .entry)) (now (order .entry)) (now (status .entry)) (now (withdrawn .entry))
         (now (lengths .entry)) (now (programs .entry)) (now (reads .entry)) (now (writes .entry)) (now (sources .entry))
-        (now (seen .entry)) (now (targets .entry)) (now (written .entry)) (now (view .entry)) in
+        (now (seen .entry)) (now (targets .entry)) (now (written .entry)) (now (view .entry)) (now (versions .entry)) in
         reply (numbered r (now (totals .exit)))
         (withTurn T (now (status .exit)) (now (reads .exit)) (now (writes .exit)) (now (sources .exit)) (now (seen .exit))
         (now (targets .exit)) (now (written .exit)) (now (view .exit)))
@@ -109,6 +112,7 @@ pub extern "C" fn tolbezun_drain(
         targets,
         written,
         view,
+        versions,
         totals,
     ))
 }

@@ -9,14 +9,22 @@ ghost use lib.ListN.{length, getD};
 ghost use Rattle.machine.specs.Form.{allBelow};
 ghost use Rattle.model.specs.Form.{headFits, programFits, orderFits};
 
-// Whether a place's timestamp, status, flag and counts are right: a New change's lists are empty.
-fn head_fits(timestamp: u64, status: u16, withdrawn: u16, reads: u16, writes: u16) -> bool
-    ensures { λ r. ⌜ r ≡ headFits (timestamp ∷ []) (status ∷ []) (withdrawn ∷ []) (reads ∷ []) (writes ∷ []) 0 ⌝ }
+// Whether a place's timestamp, status, flag, counts and version are right: a New change's lists are empty.
+fn head_fits(
+    timestamp: u64,
+    status: u16,
+    withdrawn: u16,
+    reads: u16,
+    writes: u16,
+    version: u16,
+) -> bool
+    ensures { λ r. ⌜ r ≡ headFits (timestamp ∷ []) (status ∷ []) (withdrawn ∷ []) (reads ∷ []) (writes ∷ []) (version ∷ []) 0 ⌝ }
 {
     is_timestamp(timestamp)
         & (status <= 2)
         & (withdrawn <= 1)
         & ((status != 0) | ((reads == 0) & (writes == 0)))
+        & (version <= 1)
 }
 
 // Whether the heads of the first count places are right.
@@ -27,21 +35,31 @@ pub fn heads_fit(
     withdrawn: &[u16],
     reads: &[u16],
     writes: &[u16],
+    versions: &[u16],
 ) -> bool
     requires { ⌜
         (count ≤ length (now timestamps)) × (count ≤ length (now status)) × (count ≤ length (now withdrawn))
-        × (count ≤ length (now reads)) × (count ≤ length (now writes))
+        × (count ≤ length (now reads)) × (count ≤ length (now writes)) × (count ≤ length (now versions))
         ⌝ }
     ensures { λ r. ⌜
         r
         ≡ allBelow count
-        (headFits (now (timestamps .entry)) (now (status .entry)) (now (withdrawn .entry)) (now (reads .entry)) (now (writes .entry)))
+        (headFits (now (timestamps .entry)) (now (status .entry)) (now (withdrawn .entry)) (now (reads .entry)) (now (writes .entry))
+        (now (versions .entry)))
         ⌝ }
 {
     let mut fits = true;
     let mut i = 0;
     while i < count {
-        fits = fits & head_fits(timestamps[i], status[i], withdrawn[i], reads[i], writes[i]);
+        fits = fits
+            & head_fits(
+                timestamps[i],
+                status[i],
+                withdrawn[i],
+                reads[i],
+                writes[i],
+                versions[i],
+            );
         i += 1;
     }
     fits

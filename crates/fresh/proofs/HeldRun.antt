@@ -10,6 +10,7 @@ use lib.Dec.{eqb}
 use lib.IntN.{ℤ}
 use lib.ListN.{length, getD, length-take}
 use Rattle.machine.specs.Settings.{valueIn, carry}
+use Rattle.machine.specs.Instruction.{Code}
 use Rattle.machine.specs.Form.{wellFormed}
 use Rattle.machine.specs.Run.{run}
 use Rattle.machine.proofs.Cases.{by-test}
@@ -21,7 +22,7 @@ use Rattle.fresh.specs.HeldRuns.{heldRun, ProgramsWithin}
 pub part-runs : {limit : ℕ} {lengths programs : List ℕ} → ProgramsWithin limit lengths programs → (place : ℕ) → place < limit → let bytes = part 256 place (8 * getD lengths place 0) programs in (length bytes ≤ 256) × (wellFormed bytes ≡ true)
 part-runs r place h = rw used-part (simp length-take (omega (arith, r .short place h)), r .formed place h)
 
-module _ (order withdrawn : List ℕ) (program : ℕ → List ℕ) (values₀ : List ℤ) where
+module _ (order withdrawn : List ℕ) (program : ℕ → Code) (values₀ : List ℤ) where
   pub length-held : (k : ℕ) → length (heldRun order withdrawn program values₀ k) ≡ length values₀
   unfolding heldRun
   length-held zero = refl

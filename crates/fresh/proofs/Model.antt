@@ -8,6 +8,7 @@ use lib.IntN.{pos}
 use lib.ListN.{length, getD, take}
 use lib.Seq.{take-suc, take-all}
 use Rattle.machine.specs.Settings.{settingCount, Environment, valueIn, Entry, _orElse_, lookup, after, carry}
+use Rattle.machine.specs.Instruction.{Code}
 use Rattle.machine.specs.Run.{run}
 use Rattle.machine.proofs.Settings.{carry-after, length-carry}
 use Rattle.machine.proofs.Lists.{run-agree}
@@ -25,7 +26,7 @@ use Rattle.model.proofs.Form.{facts}
 use Rattle.fresh.specs.HeldRuns.{runPlace, heldRun, HeldPrograms}
 
 -- tables in form have what the code relies on
-pub held-programs : {n k : ℕ} {T : Tables} → Formed n T → k ≡ heldCount T → HeldPrograms k (T .order) (T .withdrawn) (T .lengths) (T .programs)
+pub held-programs : {n k : ℕ} {T : Tables} → Formed n T → k ≡ heldCount T → HeldPrograms k (T .order) (T .withdrawn) (T .lengths) (T .programs) (T .versions)
 held-programs {n} {k} {T} formed e =
     let g = facts formed .sizes in
     let f = facts formed .form in
@@ -41,14 +42,15 @@ held-programs {n} {k} {T} formed e =
             short = λ i h. f .programs i h .short;
             formed = λ i h. f .programs i h .formed;
           };
+      versioned = omega (arith, g .versions, f .small);
     }
 
 -- ---- a run on the list of an environment's values
 
 module _ (env : Environment) where
   -- a run on the list is the run on the environment
-  pub run-allSettings : (bytes : List ℕ) → length bytes ≤ 256 → run (valueIn (allSettings env)) bytes ≡ run env bytes
-  run-allSettings bytes h = run-agree env (valueIn (allSettings env)) (value-allSettings env) bytes h
+  pub run-allSettings : (p : Code) → length (p .bytes) ≤ 256 → run (valueIn (allSettings env)) p ≡ run env p
+  run-allSettings p h = run-agree env (valueIn (allSettings env)) (value-allSettings env) p h
 
   -- writes carried into the list are carried into the environment
   pub carry-allSettings : (writes : List Entry) → carry writes (allSettings env) ≡ allSettings (after writes env)
@@ -59,7 +61,7 @@ module _ (env : Environment) where
       ∙ ap (λ (k : ℕ). tabulate k (after writes env)) size
 
   -- a change run on the list
-  place-fresh : (flags : List ℕ) (programs : ℕ → List ℕ) (place : ℕ) (x : Change) → getD flags place 0 ≡ flagNumber (withdrawn x) → programs place ≡ program x → length (program x) ≤ 256 → runPlace flags programs place (allSettings env) ≡ allSettings (freshAfter (bookedAs x) env)
+  place-fresh : (flags : List ℕ) (programs : ℕ → Code) (place : ℕ) (x : Change) → getD flags place 0 ≡ flagNumber (withdrawn x) → programs place ≡ program x → length (program x .bytes) ≤ 256 → runPlace flags programs place (allSettings env) ≡ allSettings (freshAfter (bookedAs x) env)
   unfolding runLists lookup
   place-fresh flags programs place (change t p s true l) f e h = rw f
   place-fresh flags programs place (change t p s false l) f e h = rw (f, e, run-allSettings p h) (carry-allSettings (run env p .writes))
@@ -82,7 +84,7 @@ module _ (n : ℕ) (c : Cabinet) (s : Sound n c) (env : Environment) where
       let x = getD (c .changes) i blank in
       let held = below-at (length (c .changes)) (c .order) k (s .placed .below) h in
       ap₂ (runPlace (encode n c .withdrawn) (programAt (encode n c))) (order-at n c k) (held-first k (omega arith))
-      ∙ place-fresh (freshEnd (bookOf first) env) (encode n c .withdrawn) (programAt (encode n c)) i x (withdrawn-at n c i) (program-back n c s i held) (length-short (program x) (sound-at (c .changes) i (s .each) held .sized))
+      ∙ place-fresh (freshEnd (bookOf first) env) (encode n c .withdrawn) (programAt (encode n c)) i x (withdrawn-at n c i) (program-back n c s i held) (length-short (program x .bytes) (sound-at (c .changes) i (s .each) held .sized))
       ∙ ap allSettings (sym (fresh-last first x env))
       ∙ ap (λ l. allSettings (freshEnd (bookOf (first ++ (l ∷ []))) env)) (sym (changesAt-get (c .changes) (c .order) k h))
       ∙ ap (λ l. allSettings (freshEnd (bookOf l) env)) (sym (take-suc (historyOf c) k blank (rw (changesAt-length (c .changes) (c .order)) h)))

@@ -7,10 +7,11 @@ ghost use mathlib.Core.Bool.{true};
 ghost use Prim.Native.Nat.{_≤_};
 ghost use lib.ListN.{length};
 ghost use Rattle.machine.specs.Settings.{valueIn, carry};
+ghost use Rattle.machine.specs.Instruction.{code};
 ghost use Rattle.machine.specs.Form.{wellFormed};
 ghost use Rattle.machine.specs.Run.{run};
 ghost use Rattle.model.specs.History.{start, allSettings};
-ghost use Rattle.model.specs.Tables.{programIn};
+ghost use Rattle.model.specs.Tables.{codeIn};
 ghost use Rattle.fresh.specs.HeldRuns.{heldRun, HeldPrograms};
 
 // The start value of a setting, by the rule of the table: 1 in field 2, else 0.
@@ -38,16 +39,17 @@ pub fn fill_start(values: &mut [i32])
     }
 }
 
-// A program run on some values, and its writes carried into them.
-pub fn apply(program: &[u8], values: &mut [i32])
+// A program run by the rules of a version on some values, and its writes carried into them.
+pub fn apply(version: u16, program: &[u8], values: &mut [i32])
     requires { ⌜ (length (now program) ≤ 256) × (wellFormed (now program) ≡ true) × (length (now values) ≡ 1024) ⌝ }
-    ensures { λ _. ⌜ now (values .exit) ≡ carry (run (valueIn (now (values .entry))) (now (program .entry)) .writes) (now (values .entry)) ⌝ }
+    ensures { λ _. ⌜ now (values .exit) ≡ carry (run (valueIn (now (values .entry))) (code version (now (program .entry))) .writes) (now (values .entry)) ⌝ }
 {
     let mut sources = [0u16; 32];
     let mut seen = [0i32; 32];
     let mut targets = [0u16; 32];
     let mut written = [0i32; 32];
     let run = run_program(
+        version,
         program,
         values,
         &mut sources,
@@ -65,14 +67,16 @@ pub fn run_held(
     withdrawn: &[u16],
     lengths: &[u16],
     programs: &[u8],
+    versions: &[u16],
     values: &mut [i32],
 )
     requires { ⌜
-        HeldPrograms count (now order) (now withdrawn) (now lengths) (now programs) × (length (now values) ≡ 1024)
+        HeldPrograms count (now order) (now withdrawn) (now lengths) (now programs) (now versions) × (length (now values) ≡ 1024)
         ⌝ }
     ensures { λ _. ⌜
         now (values .exit)
-        ≡ heldRun (now (order .entry)) (now (withdrawn .entry)) (programIn (now (lengths .entry)) (now (programs .entry)))
+        ≡ heldRun (now (order .entry)) (now (withdrawn .entry))
+        (codeIn (now (lengths .entry)) (now (programs .entry)) (now (versions .entry)))
         (now (values .entry)) count
         ⌝ }
 {
@@ -82,7 +86,7 @@ pub fn run_held(
         if withdrawn[place] == 0 {
             let begin = 256 * place;
             let end = begin + 8 * (lengths[place] as usize);
-            apply(&programs[begin..end], values);
+            apply(versions[place], &programs[begin..end], values);
         }
         k += 1;
     }

@@ -5,6 +5,7 @@ use tables::form::fault;
 use taking::take_item;
 use withdrawing::withdraw_item;
 ghost use mathlib.Core.Path.{_≡_};
+ghost use Rattle.machine.specs.Instruction.{code};
 ghost use Rattle.model.specs.Tables.{tables, withTaking, withWithdrawing};
 ghost use Rattle.model.specs.Calls.{reply, takeIn, withdraw};
 
@@ -25,16 +26,18 @@ pub fn take_in(
     targets: &[u16],
     written: &[i32],
     view: &[i32],
+    versions: &mut [u16],
     timestamp: u64,
+    version: u16,
     program: &[u8],
 ) -> Answer
     ensures { λ r. ⌜
         (let T =
         tables (now (held .entry)) (now (timestamps .entry)) (now (order .entry)) (now (status .entry)) (now (withdrawn .entry))
         (now (lengths .entry)) (now (programs .entry)) (now (reads .entry)) (now (writes .entry)) (now (sources .entry))
-        (now (seen .entry)) (now (targets .entry)) (now (written .entry)) (now (view .entry)) in
-        reply r (withTaking T (now (held .exit)) (now (timestamps .exit)) (now (order .exit)) (now (lengths .exit)) (now (programs .exit)))
-        ≡ takeIn n T timestamp (now (program .entry)))
+        (now (seen .entry)) (now (targets .entry)) (now (written .entry)) (now (view .entry)) (now (versions .entry)) in
+        reply r (withTaking T (now (held .exit)) (now (timestamps .exit)) (now (order .exit)) (now (lengths .exit)) (now (programs .exit)) (now (versions .exit)))
+        ≡ takeIn n T timestamp (code version (now (program .entry))))
         ⌝ }
 {
     let refusal = fault(
@@ -53,6 +56,7 @@ pub fn take_in(
         targets,
         written,
         view,
+        versions,
     );
     if refusal != 0 {
         return Answer::Refused(refusal);
@@ -63,7 +67,9 @@ pub fn take_in(
         order,
         lengths,
         programs,
+        versions,
         timestamp,
+        version,
         program,
     )
 }
@@ -85,13 +91,14 @@ pub fn withdraw(
     targets: &[u16],
     written: &[i32],
     view: &[i32],
+    versions: &[u16],
     timestamp: u64,
 ) -> Answer
     ensures { λ r. ⌜
         (let T =
         tables (now (held .entry)) (now (timestamps .entry)) (now (order .entry)) (now (status .entry)) (now (withdrawn .entry))
         (now (lengths .entry)) (now (programs .entry)) (now (reads .entry)) (now (writes .entry)) (now (sources .entry))
-        (now (seen .entry)) (now (targets .entry)) (now (written .entry)) (now (view .entry)) in
+        (now (seen .entry)) (now (targets .entry)) (now (written .entry)) (now (view .entry)) (now (versions .entry)) in
         reply r (withWithdrawing T (now (status .exit)) (now (withdrawn .exit)))
         ≡ withdraw n T timestamp)
         ⌝ }
@@ -112,6 +119,7 @@ pub fn withdraw(
         targets,
         written,
         view,
+        versions,
     );
     if refusal != 0 {
         return Answer::Refused(refusal);

@@ -14,7 +14,7 @@ use Rattle.words.specs.Words.{isZero}
 use Rattle.machine.specs.declared.Effect.{Effect}
 use Rattle.machine.specs.declared.Instruction.{Instruction}
 use Rattle.machine.specs.Settings.{Environment, entries, everywhere}
-use Rattle.machine.specs.Instruction.{instructionAt, instructionsFrom, instructionCount, programOf}
+use Rattle.machine.specs.Instruction.{instructionAt, instructionsFrom, instructionCount, programOf, Code}
 use Rattle.machine.specs.Form.{isDistance, wellFormed}
 use Rattle.machine.specs.Run.{registerIn, effect, State, perform, step, wanted, Outcome, continue, runFrom, runProgram, run}
 use Rattle.machine.proofs.Cases.{by-test, true-is-not-false}
@@ -71,8 +71,8 @@ abbrev pub onward : Environment → List ℕ → Run → Lists → Outcome
 onward env bytes r l = runFrom env (r .place) (instructionsFrom bytes (r .place) (instructionCount bytes - r .place)) 0 (stateOf r l)
 
 -- before an instruction: the definition run from here on is the definition run on the whole
-pub record Reached (env : Environment) (bytes : List ℕ) (r : Run) (l : Lists) : Type 0 where
-  pub rest : onward env bytes r l ≡ run env bytes
+pub record Reached (env : Environment) (code : Code) (r : Run) (l : Lists) : Type 0 where
+  pub rest : onward env (code .bytes) r l ≡ run env code
   pub going : r .state ≡ 0
   pub within : r .place ≤ 32
   pub reads : r .reads ≤ r .place
@@ -94,25 +94,25 @@ passes env bytes place (suc count) (suc k) state =
     let n : count - k ≡ suc count - suc k = omega arith in
     passes env bytes (suc place) count k state ∙ (λ i. runFrom env (p i) (instructionsFrom bytes (p i) (n i)) 0 state)
 
-module _ (env : Environment) (bytes : List ℕ) (b : length bytes ≤ 256) where
+module _ (env : Environment) (code : Code) (b : length (code .bytes) ≤ 256) where
   -- a record that has reached an instruction can take it
-  pub ready : {r : Run} {l : Lists} → Reached env bytes r l → r .place < instructionCount bytes → Ready r
+  pub ready : {r : Run} {l : Lists} → Reached env code r l → r .place < instructionCount (code .bytes) → Ready r
   ready h p = record { going = h .going; placed = omega arith; reads = h .reads; writes = h .writes }
 
   -- at the start
-  pub begins : {l : Lists} → Sized l → Reached env bytes begun l
+  pub begins : {l : Lists} → Sized l → Reached env code (begun (code .version)) l
   unfolding run runProgram programOf entries
   begins {l} z =
-      let n : instructionCount bytes - 0 ≡ instructionCount bytes = omega arith in
-      record { rest = λ i. runFrom env 0 (instructionsFrom bytes 0 (n i)) 0 (stateOf begun l); going = refl; within = omega arith; reads = omega arith; writes = omega arith; sized = z }
+      let n : instructionCount (code .bytes) - 0 ≡ instructionCount (code .bytes) = omega arith in
+      record { rest = λ i. runFrom env 0 (instructionsFrom (code .bytes) 0 (n i)) 0 (stateOf (begun (code .version)) l); going = refl; within = omega arith; reads = omega arith; writes = omega arith; sized = z }
 
   -- past the last instruction
-  pub ends : {r : Run} {l : Lists} → Reached env bytes r l → instructionCount bytes ≤ r .place → Ran r l (run env bytes)
+  pub ends : {r : Run} {l : Lists} → Reached env code r l → instructionCount (code .bytes) ≤ r .place → Ran r l (run env code)
   unfolding runFrom instructionsFrom
   ends {r} {l} h p =
-      let n : 0 ≡ instructionCount bytes - r .place = omega arith in
+      let n : 0 ≡ instructionCount (code .bytes) - r .place = omega arith in
       record {
-        outcome = ap (λ (s : ℕ). outcomeOf (ended r s (r .writes)) l) (h .going) ∙ (λ i. runFrom env (r .place) (instructionsFrom bytes (r .place) (n i)) 0 (stateOf r l)) ∙ h .rest;
+        outcome = ap (λ (s : ℕ). outcomeOf (ended r s (r .writes)) l) (h .going) ∙ (λ i. runFrom env (r .place) (instructionsFrom (code .bytes) (r .place) (n i)) 0 (stateOf r l)) ∙ h .rest;
         placed = h .within;
         reads = omega arith;
         writes = omega arith;
@@ -120,27 +120,27 @@ module _ (env : Environment) (bytes : List ℕ) (b : length bytes ≤ 256) where
       }
 
   -- one turn: e is the effect of the instruction, v the value of the setting that it wants, and r' and l' follow
-  module _ {r r' : Run} {l l' : Lists} (h : Reached env bytes r l) (p : r .place < instructionCount bytes) {e : Effect} {v : ℤ} (q : e ≡ effect (instructionAt bytes (r .place)) (r .registers)) (w : v ≡ env (wanted e)) (s : Stepped r (perform (everywhere v) e (stateOf r l)) r' l') where
+  module _ {r r' : Run} {l l' : Lists} (h : Reached env code r l) (p : r .place < instructionCount (code .bytes)) {e : Effect} {v : ℤ} (q : e ≡ effect (instructionAt (code .bytes) (r .place)) (r .registers)) (w : v ≡ env (wanted e)) (s : Stepped r (perform (everywhere v) e (stateOf r l)) r' l') where
     -- how the instructions after this one run
     abbrev rest : ℕ → State → Outcome
-    rest = runFrom env (suc (r .place)) (instructionsFrom bytes (suc (r .place)) (instructionCount bytes - suc (r .place)))
+    rest = runFrom env (suc (r .place)) (instructionsFrom (code .bytes) (suc (r .place)) (instructionCount (code .bytes) - suc (r .place)))
 
     -- what follows the instruction is what the definition leaves
-    turn : proceed rest (r .place) r' l' ≡ run env bytes
+    turn : proceed rest (r .place) r' l' ≡ run env code
     unfolding runFrom instructionsFrom step
     turn =
-        let n : suc (instructionCount bytes - suc (r .place)) ≡ instructionCount bytes - r .place = omega arith in
-        let one : perform (everywhere v) e (stateOf r l) ≡ step env (instructionAt bytes (r .place)) (stateOf r l) = rw (w, perform-wanted env e (stateOf r l), q) in
-        s .follows rest ∙ ap (continue rest (r .place)) one ∙ (λ i. runFrom env (r .place) (instructionsFrom bytes (r .place) (n i)) 0 (stateOf r l)) ∙ h .rest
+        let n : suc (instructionCount (code .bytes) - suc (r .place)) ≡ instructionCount (code .bytes) - r .place = omega arith in
+        let one : perform (everywhere v) e (stateOf r l) ≡ step env (instructionAt (code .bytes) (r .place)) (stateOf r l) = rw (w, perform-wanted env e (stateOf r l), q) in
+        s .follows rest ∙ ap (continue rest (r .place)) one ∙ (λ i. runFrom env (r .place) (instructionsFrom (code .bytes) (r .place) (n i)) 0 (stateOf r l)) ∙ h .rest
 
     -- the record goes on
-    pub goes-on : r' .state ≡ 0 → Reached env bytes r' l'
+    pub goes-on : r' .state ≡ 0 → Reached env code r' l'
     goes-on g =
         let up = s .rises g in
         let at : suc (r .place) + (r' .place - (r .place + 1)) ≡ r' .place = omega arith in
-        let n : instructionCount bytes - suc (r .place) - (r' .place - (r .place + 1)) ≡ instructionCount bytes - r' .place = omega arith in
+        let n : instructionCount (code .bytes) - suc (r .place) - (r' .place - (r .place + 1)) ≡ instructionCount (code .bytes) - r' .place = omega arith in
         record {
-          rest = sym (passes env bytes (suc (r .place)) (instructionCount bytes - suc (r .place)) (r' .place - (r .place + 1)) (stateOf r' l') ∙ (λ i. runFrom env (at i) (instructionsFrom bytes (at i) (n i)) 0 (stateOf r' l'))) ∙ (rw (eq-eqb (r' .state) 0 g) at turn);
+          rest = sym (passes env (code .bytes) (suc (r .place)) (instructionCount (code .bytes) - suc (r .place)) (r' .place - (r .place + 1)) (stateOf r' l') ∙ (λ i. runFrom env (at i) (instructionsFrom (code .bytes) (at i) (n i)) 0 (stateOf r' l'))) ∙ (rw (eq-eqb (r' .state) 0 g) at turn);
           going = g;
           within = s .within;
           reads = omega (arith, s .reads);
@@ -149,5 +149,5 @@ module _ (env : Environment) (bytes : List ℕ) (b : length bytes ≤ 256) where
         }
 
     -- the record has ended
-    pub has-ended : (r' .state ≡ 0 → ⊥) → Ran r' l' (run env bytes)
+    pub has-ended : (r' .state ≡ 0 → ⊥) → Ran r' l' (run env code)
     has-ended g = record { outcome = rw (ne-eqb (r' .state) 0 g) at turn; placed = s .within; reads = omega (arith, s .reads); writes = omega (arith, s .writes); sized = s .sized }

@@ -7,6 +7,7 @@ ghost use mathlib.Core.Bool.{true};
 ghost use Prim.Native.Nat.{ℕ, _≤_, _<_};
 ghost use lib.ListN.{length, getD};
 ghost use Rattle.machine.specs.Settings.{valueIn, entries, carry};
+ghost use Rattle.machine.specs.Instruction.{code};
 ghost use Rattle.machine.specs.Form.{wellFormed};
 ghost use Rattle.machine.specs.Run.{run};
 ghost use Rattle.run_record.specs.Record.{lists, Sized, Ran};
@@ -21,8 +22,9 @@ fn value_in(values: &[i32], s: usize) -> i32
     0
 }
 
-// The run of a program on some values. The lists stand in the arrays, as many entries as the record counts.
+// The run of a program by the rules of a version, on some values. The lists stand in the arrays, as many entries as the record counts.
 pub fn run_program(
+    version: u16,
     program: &[u8],
     values: &[i32],
     sources: &mut [u16; 32],
@@ -31,10 +33,10 @@ pub fn run_program(
     written: &mut [i32; 32],
 ) -> Run
     requires { ⌜ (length (now program) ≤ 256) × (wellFormed (now program) ≡ true) × Sized (lists (now sources) (now seen) (now targets) (now written)) ⌝ }
-    ensures { λ r. ⌜ Ran r (lists (now (sources .exit)) (now (seen .exit)) (now (targets .exit)) (now (written .exit))) (run (valueIn (now (values .entry))) (now (program .entry))) ⌝ }
+    ensures { λ r. ⌜ Ran r (lists (now (sources .exit)) (now (seen .exit)) (now (targets .exit)) (now (written .exit))) (run (valueIn (now (values .entry))) (code version (now (program .entry)))) ⌝ }
 {
     let count = program.len() / 8;
-    let mut run = Run::new();
+    let mut run = Run::new(version);
     let mut place = 0;
     while place < count {
         let e = run.effect(instruction_at(program, place));

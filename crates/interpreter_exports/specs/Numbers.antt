@@ -6,14 +6,15 @@ use lib.Dec.{eqb}
 use lib.IntN.{ℤ}
 use lib.ListN.{length, getD, drop}
 use Rattle.machine.specs.Settings.{valueIn}
-use Rattle.machine.specs.Form.{lengthFits, wellFormed}
+use Rattle.machine.specs.Instruction.{Code}
 use Rattle.machine.specs.Run.{Fault, noSetting, readsWritten, writesTwice, Ending, completed, faulted, Outcome, run}
 use Rattle.model.specs.Tables.{settingsOf, valuesOf}
+use Rattle.model.specs.Refusals.{firstOf, wrongProgramLength, noVersion, malformed}
 use Rattle.run_record.specs.Record.{Lists, lists}
 
--- 6 for a wrong length, 7 for an instruction that is not well formed, else 0
-unfoldable pub refusalOf : List ℕ → ℕ
-refusalOf bytes = cond (lengthFits bytes) (cond (wellFormed bytes) 0 7) 6
+-- 6 for a wrong length, 13 for a version above 1, 7 for an instruction that is not well formed, else 0
+unfoldable pub refusalOf : Code → ℕ
+refusalOf p = firstOf (wrongProgramLength p ∷ noVersion p ∷ malformed p ∷ [])
 
 -- the number of an ending by a record's state
 abbrev pub endingNumber : ℕ → ℕ
@@ -33,9 +34,9 @@ outcomeNumber lengths (faulted fault place) = lengths + faultNumber fault * 4096
 -- ---- the run into lent lists
 
 -- the refusal of a run into lists of these lengths: 1 where one of them is not 32, else the program's, 0 for none
-abbrev pub runRefusal : List ℕ → ℕ → ℕ → ℕ → ℕ → ℕ
-runRefusal bytes sources seen targets written =
-    cond (eqb sources 32 && eqb seen 32 && eqb targets 32 && eqb written 32) (refusalOf bytes) 1
+abbrev pub runRefusal : Code → ℕ → ℕ → ℕ → ℕ → ℕ
+runRefusal p sources seen targets written =
+    cond (eqb sources 32 && eqb seen 32 && eqb targets 32 && eqb written 32) (refusalOf p) 1
 
 -- a list put over the first elements of another; those past it stay
 abbrev pub over : {A : Type 0} → List A → List A → List A
@@ -64,7 +65,7 @@ abbrev pub reportBy : ℕ → Outcome → Lists → Report
 reportBy zero o l = ofRun o l
 reportBy (suc refusal) o l = reported (16777216 + suc refusal) l
 
--- the report of a program's bytes, run on a list of values
-unfoldable pub report : List ℕ → List ℤ → Lists → Report
-report bytes values l =
-    reportBy (runRefusal bytes (length (l .sources)) (length (l .seen)) (length (l .targets)) (length (l .written))) (run (valueIn values) bytes) l
+-- the report of a program, run on a list of values
+unfoldable pub report : Code → List ℤ → Lists → Report
+report p values l =
+    reportBy (runRefusal p (length (l .sources)) (length (l .seen)) (length (l .targets)) (length (l .written))) (run (valueIn values) p) l

@@ -6,16 +6,20 @@ use run_record::Run;
 ghost use mathlib.Core.Path.{_≡_};
 ghost use Prim.Native.Nat.{_+_, _*_, _≤_};
 ghost use lib.ListN.{length, take};
+ghost use Rattle.machine.specs.Instruction.{code};
 ghost use Rattle.run_record.specs.Record.{endingOf, lists};
 ghost use Rattle.interpreter_exports.specs.Numbers.{refusalOf, endingNumber, outcomeNumber, runRefusal, over, reported, report};
 
-// 0 if a program is accepted, else its refusal, 6 or 7.
+// 0 if a program of a version is accepted, else its refusal, 6, 13 or 7.
 #[no_mangle]
-pub extern "C" fn tolbezun_program_refusal(program: &[u8]) -> u8
-    ensures { λ r. ⌜ r ≡ refusalOf (now (program .entry)) ⌝ }
+pub extern "C" fn tolbezun_program_refusal(version: u16, program: &[u8]) -> u8
+    ensures { λ r. ⌜ r ≡ refusalOf (code version (now (program .entry))) ⌝ }
 {
     if !length_fits(program) {
         return 6;
+    }
+    if 1 < version {
+        return 13;
     }
     if !well_formed(program) {
         return 7;
@@ -50,13 +54,20 @@ fn number_of(run: Run) -> u32
 }
 
 // 0 where a program can be run into lists of these lengths: 1 where one of them is not 32, else the program's refusal.
-fn run_refusal(program: &[u8], sources: usize, seen: usize, targets: usize, written: usize) -> u8
-    ensures { λ r. ⌜ r ≡ runRefusal (now (program .entry)) sources seen targets written ⌝ }
+fn run_refusal(
+    version: u16,
+    program: &[u8],
+    sources: usize,
+    seen: usize,
+    targets: usize,
+    written: usize,
+) -> u8
+    ensures { λ r. ⌜ r ≡ runRefusal (code version (now (program .entry))) sources seen targets written ⌝ }
 {
     if !((sources == 32) & (seen == 32) & (targets == 32) & (written == 32)) {
         return 1;
     }
-    tolbezun_program_refusal(program)
+    tolbezun_program_refusal(version, program)
 }
 
 // The number of a refused run, above that of every run.
@@ -90,11 +101,12 @@ fn copy_values(count: usize, list: &[i32; 32], lent: &mut [i32])
     }
 }
 
-// Runs a program on 1,024 values; where there are fewer, the others are 0. Where a lent list has another length than 32 or the program is
+// Runs a program by the rules of a version on 1,024 values; where there are fewer, the others are 0. Where a lent list has another length than 32 or the program is
 // refused, the answer is 16,777,216 + the refusal and the lists stay as they are. Else it is reads + 64 × writes + 4,096 × ending +
 // 65,536 × place, where place is that of the faulting instruction, or 0; the first entries of the lists are the run's, the others stay.
 #[no_mangle]
 pub extern "C" fn tolbezun_program_run(
+    version: u16,
     program: &[u8],
     values: &[i32],
     sources: &mut [u16],
@@ -104,11 +116,12 @@ pub extern "C" fn tolbezun_program_run(
 ) -> u32
     ensures { λ r. ⌜
         reported r (lists (now (sources .exit)) (now (seen .exit)) (now (targets .exit)) (now (written .exit)))
-        ≡ report (now (program .entry)) (now (values .entry))
+        ≡ report (code version (now (program .entry))) (now (values .entry))
         (lists (now (sources .entry)) (now (seen .entry)) (now (targets .entry)) (now (written .entry)))
         ⌝ }
 {
     let refusal = run_refusal(
+        version,
         program,
         sources.len(),
         seen.len(),
@@ -123,6 +136,7 @@ pub extern "C" fn tolbezun_program_run(
     let mut stored = [0u16; 32];
     let mut given = [0i32; 32];
     let run = run_program(
+        version,
         program,
         values,
         &mut read,

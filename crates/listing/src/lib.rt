@@ -31,13 +31,14 @@ pub fn put_listing(
     targets: &mut [u16],
     written: &mut [i32],
     view: &mut [i32],
+    versions: &mut [u16],
     answers: &mut [u8],
     text: &mut [u8],
 ) -> usize
     requires { ⌜
         lengthsFit capacity
         (tables (now held) (now timestamps) (now order) (now status) (now withdrawn) (now lengths) (now programs)
-        (now reads) (now writes) (now sources) (now seen) (now targets) (now written) (now view))
+        (now reads) (now writes) (now sources) (now seen) (now targets) (now written) (now view) (now versions))
         ≡ true
         ⌝ }
     requires { ⌜ (length (now answers) ≡ 512) × (131072 ≤ length (now text)) ⌝ }
@@ -45,7 +46,7 @@ pub fn put_listing(
         (let T =
         tables (now (held .entry)) (now (timestamps .entry)) (now (order .entry)) (now (status .entry)) (now (withdrawn .entry))
         (now (lengths .entry)) (now (programs .entry)) (now (reads .entry)) (now (writes .entry)) (now (sources .entry))
-        (now (seen .entry)) (now (targets .entry)) (now (written .entry)) (now (view .entry)) in
+        (now (seen .entry)) (now (targets .entry)) (now (written .entry)) (now (view .entry)) (now (versions .entry)) in
         Put 0 (listing T (now (bytes .entry)) (now (answers .entry))) (now (text .entry)) (now (text .exit)) r)
         ⌝ }
     ensures { λ r. ⌜ Counts r (now (text .exit)) ⌝ }
@@ -66,6 +67,7 @@ pub fn put_listing(
         targets,
         written,
         view,
+        versions,
     );
     let answer = take_in_package(
         CAPACITY,
@@ -83,6 +85,7 @@ pub fn put_listing(
         targets,
         written,
         view,
+        versions,
         bytes,
         answers,
     );
@@ -101,6 +104,7 @@ pub fn put_listing(
         targets,
         written,
         view,
+        versions,
         answer,
         bytes,
         answers,

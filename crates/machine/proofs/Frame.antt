@@ -2,14 +2,14 @@
 use mathlib.Core.Path.{_≡_, refl, ap, _∙_}
 use mathlib.Core.List.{List, [], _∷_}
 use Prim.Native.Nat.{ℕ, suc, zero}
+use lib.Dec.{eqb}
 use lib.IntN.{natAbs}
-use lib.ListN.{set}
 use Rattle.machine.specs.declared.Effect.{Effect}
 use Rattle.machine.specs.declared.Effect.the-variants.{Halt, Assign, Load, Store, Skip}
 use Rattle.machine.specs.Settings.{settingCount, Environment, Entry, entry, named, Holds}
-use Rattle.machine.specs.Instruction.{Program, programOf}
+use Rattle.machine.specs.Instruction.{Program, programOf, Code}
 use Rattle.machine.specs.Form.{isBelow}
-use Rattle.machine.specs.Run.{effect, State, Next, stops, faults, goes, enter, load, store, perform, step, Outcome, continue, runFrom, start, runProgram, run}
+use Rattle.machine.specs.Run.{effect, Fault, State, Next, stops, faults, goes, enter, withRegister, withReads, onceWritten, load, store, perform, step, Outcome, continue, runFrom, start, runProgram, run}
 use Rattle.machine.proofs.Cases.{by-test, by-test₂}
 use Rattle.machine.proofs.Settings.{holds-before, holds-last, holds-more, holds-both}
 
@@ -18,6 +18,10 @@ abbrev pub readsOf : Next → List Entry
 readsOf (stops state) = state .reads
 readsOf (faults fault earlier) = earlier
 readsOf (goes skipped state) = state .reads
+
+-- a second use of a written setting leaves the read list as it is
+reads-once : (P : List Entry → Type 0) (fault : Fault) (state allowed : State) → P (state .reads) → P (allowed .reads) → P (readsOf (onceWritten fault state allowed))
+reads-once P fault state allowed h h' = by-test (λ x. P (readsOf x)) (eqb (state .version) 0) (λ t. h) (λ t. h')
 
 -- ---- what a run saw is what the environment holds
 
@@ -32,11 +36,11 @@ module _ (env : Environment) where
   perform-holds (Assign a v) state h = h
   perform-holds (Load a s) state h =
       by-test (λ x. Holds env (readsOf x)) (isBelow s settingCount)
-      (λ t. by-test (λ x. Holds env (readsOf x)) (named (natAbs s) (state .writes)) (λ t. h) (λ t. enter-holds (natAbs s) (state .reads) h))
+      (λ t. by-test (λ x. Holds env (readsOf x)) (named (natAbs s) (state .writes)) (λ t. reads-once (Holds env) _ state _ h h) (λ t. enter-holds (natAbs s) (state .reads) h))
       (λ t. h)
   perform-holds (Store s v) state h =
       by-test (λ x. Holds env (readsOf x)) (isBelow s settingCount)
-      (λ t. by-test (λ x. Holds env (readsOf x)) (named (natAbs s) (state .writes)) (λ t. h) (λ t. h))
+      (λ t. by-test (λ x. Holds env (readsOf x)) (named (natAbs s) (state .writes)) (λ t. reads-once (Holds env) _ state _ h h) (λ t. h))
       (λ t. h)
   perform-holds (Skip n) state h = h
 
@@ -53,9 +57,9 @@ module _ (env : Environment) where
       continue-holds (runFrom env (suc place) p) place (runFrom-holds (suc place) p) (step env i state) (perform-holds (effect i (state .registers)) state h)
 
   -- each value seen is the environment's
-  pub run-holds : (bytes : List ℕ) → Holds env (run env bytes .reads)
+  pub run-holds : (p : Code) → Holds env (run env p .reads)
   unfolding run runProgram Holds
-  run-holds bytes = runFrom-holds 0 (programOf bytes) 0 start tt
+  run-holds p = runFrom-holds 0 (programOf (p .bytes)) 0 (start (p .version)) tt
 
 -- ---- a run on an environment that holds what was seen
 
@@ -74,12 +78,12 @@ module _ (env env' : Environment) where
   perform-before (Assign a v) state = λ h. h
   perform-before (Load a s) state =
       by-test (λ x. Holds env' (readsOf x) → Holds env' (state .reads)) (isBelow s settingCount)
-      (λ t. by-test (λ x. Holds env' (readsOf x) → Holds env' (state .reads)) (named (natAbs s) (state .writes)) (λ t h. h)
+      (λ t. by-test (λ x. Holds env' (readsOf x) → Holds env' (state .reads)) (named (natAbs s) (state .writes)) (λ t. reads-once (λ l. Holds env' l → Holds env' (state .reads)) _ state _ (λ h. h) (λ h. h))
       (λ t. by-test (λ l. Holds env' l → Holds env' (state .reads)) (named (natAbs s) (state .reads)) (λ t h. h) (λ t. holds-before env' (state .reads) (entry (natAbs s) (env (natAbs s)) ∷ []))))
       (λ t h. h)
   perform-before (Store s v) state =
       by-test (λ x. Holds env' (readsOf x) → Holds env' (state .reads)) (isBelow s settingCount)
-      (λ t. by-test (λ x. Holds env' (readsOf x) → Holds env' (state .reads)) (named (natAbs s) (state .writes)) (λ t h. h) (λ t h. h))
+      (λ t. by-test (λ x. Holds env' (readsOf x) → Holds env' (state .reads)) (named (natAbs s) (state .writes)) (λ t. reads-once (λ l. Holds env' l → Holds env' (state .reads)) _ state _ (λ h. h) (λ h. h)) (λ t h. h))
       (λ t h. h)
   perform-before (Skip n) state = λ h. h
 
@@ -90,7 +94,7 @@ module _ (env env' : Environment) where
   perform-same (Load a s) state h =
       by-test₂ (λ x y. Holds env' (readsOf y) → x ≡ y) (isBelow s settingCount)
       (λ t. by-test₂ (λ x y. Holds env' (readsOf y) → x ≡ y) (named (natAbs s) (state .writes)) (λ t h'. refl)
-      (λ t h'. ap (λ v. goes 0 (record { registers = set (state .registers) a v; reads = enter (natAbs s) v (state .reads); writes = state .writes })) (enter-same (natAbs s) (state .reads) h h')))
+      (λ t h'. ap (λ v. goes 0 (withRegister a v (withReads (enter (natAbs s) v (state .reads)) state))) (enter-same (natAbs s) (state .reads) h h')))
       (λ t h'. refl)
   perform-same (Store s v) state h = λ h'. refl
   perform-same (Skip n) state h = λ h'. refl
@@ -122,6 +126,6 @@ module _ (env env' : Environment) where
       ∙ continue-same (runFrom env' (suc place) p) (runFrom env (suc place) p) place (runFrom-same (suc place) p) (step env i state) (perform-holds env (effect i (state .registers)) state h) h'
 
   -- a run on an environment that holds each value seen is the same run
-  pub run-same : (bytes : List ℕ) → Holds env' (run env bytes .reads) → run env' bytes ≡ run env bytes
+  pub run-same : (p : Code) → Holds env' (run env p .reads) → run env' p ≡ run env p
   unfolding run runProgram Holds
-  run-same bytes h = runFrom-same 0 (programOf bytes) 0 start tt h
+  run-same p h = runFrom-same 0 (programOf (p .bytes)) 0 (start (p .version)) tt h

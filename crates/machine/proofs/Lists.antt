@@ -5,16 +5,17 @@ use mathlib.Core.List.{List, [], _∷_, _++_}
 use Prim.Native.Nat.{ℕ, suc, zero, _+_, _≤_, _<_}
 use native.Mathlib.Omega.{arith}
 use borrow.Author.Tests.{ltb-true}
+use lib.Dec.{eqb}
 use lib.IntN.{ℤ, pos, negsuc, natAbs}
 use lib.ListN.{length, length-append}
 use Rattle.machine.specs.declared.Effect.{Effect}
 use Rattle.machine.specs.declared.Effect.the-variants.{Halt, Assign, Load, Store, Skip}
-use Rattle.machine.specs.Settings.{settingCount, Environment, Entry, entry, named, Holds, Distinct, Bounded}
-use Rattle.machine.specs.Instruction.{Program, instructionCount, instructionsFrom, programOf}
+use Rattle.machine.specs.Settings.{settingCount, Environment, Entry, entry, named, replaceFirst, Holds, Distinct, Bounded}
+use Rattle.machine.specs.Instruction.{Program, instructionCount, instructionsFrom, programOf, Code}
 use Rattle.machine.specs.Form.{isBelow}
-use Rattle.machine.specs.Run.{effect, State, Next, stops, faults, goes, enter, load, store, perform, step, Outcome, continue, runFrom, start, runProgram, run}
+use Rattle.machine.specs.Run.{effect, Fault, State, Next, stops, faults, goes, enter, onceWritten, load, store, perform, step, Outcome, continue, runFrom, start, runProgram, run}
 use Rattle.machine.proofs.Cases.{by-test, true-is-not-false}
-use Rattle.machine.proofs.Settings.{distinct-more}
+use Rattle.machine.proofs.Settings.{distinct-more, length-replaced, distinct-replaced}
 use Rattle.machine.proofs.Frame.{readsOf, run-holds, run-same}
 
 -- both lists have at most k entries, distinct
@@ -41,6 +42,10 @@ module _ (k s : ℕ) (v : ℤ) (r w : List Entry) (b : s < settingCount) (h : Wi
   write-more n =
       record { reads-short = omega (arith, h .reads-short); writes-short = simp length-append (omega (arith, h .writes-short)); reads-distinct = h .reads-distinct; writes-distinct = distinct-more s v w b n (h .writes-distinct) }
 
+  write-again : Within k r (replaceFirst s v w)
+  write-again =
+      record { reads-short = h .reads-short; writes-short = rw length-replaced (h .writes-short); reads-distinct = h .reads-distinct; writes-distinct = distinct-replaced s v w (h .writes-distinct) }
+
 -- no writes are distinct
 unwritten : {k : ℕ} {r w : List Entry} → Within k r w → Within k r []
 unfolding Distinct
@@ -52,6 +57,11 @@ writesOf (stops state) = state .writes
 writesOf (faults fault earlier) = []
 writesOf (goes skipped state) = state .writes
 
+-- a second use of a written setting
+once-within : (fault : Fault) (state allowed : State) (k : ℕ) → Within k (state .reads) (state .writes) → Within k (allowed .reads) (allowed .writes) → Within k (readsOf (onceWritten fault state allowed)) (writesOf (onceWritten fault state allowed))
+once-within fault state allowed k h h' =
+    by-test (λ x. Within k (readsOf x) (writesOf x)) (eqb (state .version) 0) (λ t. unwritten h) (λ t. h')
+
 -- an instruction adds one entry at most
 perform-within : (env : Environment) (e : Effect) (state : State) (k : ℕ) → Within k (state .reads) (state .writes) → Within (suc k) (readsOf (perform env e state)) (writesOf (perform env e state))
 unfolding perform load store enter
@@ -59,13 +69,14 @@ perform-within env Halt state k h = within-more (omega arith) h
 perform-within env (Assign a v) state k h = within-more (omega arith) h
 perform-within env (Load a s) state k h =
     by-test (λ x. Within (suc k) (readsOf x) (writesOf x)) (isBelow s settingCount)
-    (λ t. by-test (λ x. Within (suc k) (readsOf x) (writesOf x)) (named (natAbs s) (state .writes)) (λ u. unwritten (within-more (omega arith) h))
+    (λ t. by-test (λ x. Within (suc k) (readsOf x) (writesOf x)) (named (natAbs s) (state .writes)) (λ u. once-within _ state _ (suc k) (within-more (omega arith) h) (within-more (omega arith) h))
     (λ u. by-test (λ l. Within (suc k) l (state .writes)) (named (natAbs s) (state .reads)) (λ w. within-more (omega arith) h)
     (read-more k (natAbs s) (env (natAbs s)) (state .reads) (state .writes) (setting-below s t) h)))
     (λ t. unwritten (within-more (omega arith) h))
 perform-within env (Store s v) state k h =
     by-test (λ x. Within (suc k) (readsOf x) (writesOf x)) (isBelow s settingCount)
-    (λ t. by-test (λ x. Within (suc k) (readsOf x) (writesOf x)) (named (natAbs s) (state .writes)) (λ u. unwritten (within-more (omega arith) h))
+    (λ t. by-test (λ x. Within (suc k) (readsOf x) (writesOf x)) (named (natAbs s) (state .writes))
+    (λ u. once-within _ state _ (suc k) (within-more (omega arith) h) (within-more (omega arith) (write-again k (natAbs s) v (state .reads) (state .writes) (setting-below s t) h)))
     (write-more k (natAbs s) v (state .reads) (state .writes) (setting-below s t) h))
     (λ t. unwritten (within-more (omega arith) h))
 perform-within env (Skip n) state k h = within-more (omega arith) h
@@ -90,12 +101,12 @@ length-instructions bytes place zero = refl
 length-instructions bytes place (suc count) = ap suc (length-instructions bytes (suc place) count)
 
 -- the lists of a run fit the tables
-pub run-bounded : (env : Environment) (bytes : List ℕ) → length bytes ≤ 256 → Bounded (run env bytes .reads) × Bounded (run env bytes .writes)
+pub run-bounded : (env : Environment) (p : Code) → length (p .bytes) ≤ 256 → Bounded (run env p .reads) × Bounded (run env p .writes)
 unfolding run runProgram programOf Distinct
-run-bounded env bytes h =
+run-bounded env p h =
     let none : Within 0 [] [] = record { reads-short = omega arith; writes-short = omega arith; reads-distinct = tt; writes-distinct = tt } in
-    let w = runFrom-within env 0 (programOf bytes) 0 0 start none in
-    let n = length-instructions bytes 0 (instructionCount bytes) in
+    let w = runFrom-within env 0 (programOf (p .bytes)) 0 0 (start (p .version)) none in
+    let n = length-instructions (p .bytes) 0 (instructionCount (p .bytes)) in
     (record { short = omega (arith, w .reads-short, n); distinct = w .reads-distinct }, record { short = omega (arith, w .writes-short, n); distinct = w .writes-distinct })
 
 -- ---- a run reads settings only
@@ -107,5 +118,5 @@ module _ (env env' : Environment) (agree : (s : ℕ) → s < settingCount → en
   holds-agree (e ∷ l) d h = (agree (e .setting) (d .0) ∙ h .0, holds-agree l (d .2) (h .1))
 
   -- runs on environments that agree on every setting are the same
-  pub run-agree : (bytes : List ℕ) → length bytes ≤ 256 → run env' bytes ≡ run env bytes
-  run-agree bytes h = run-same env env' bytes (holds-agree _ (run-bounded env bytes h .0 .distinct) (run-holds env bytes))
+  pub run-agree : (p : Code) → length (p .bytes) ≤ 256 → run env' p ≡ run env p
+  run-agree p h = run-same env env' p (holds-agree _ (run-bounded env p h .0 .distinct) (run-holds env p))

@@ -3,13 +3,13 @@ use mathlib.Core.Path.{_≡_, refl, sym, ap, _∙_}
 use mathlib.Core.Bool.{Bool, true, false, cond}
 use mathlib.Core.Option.{Option, none, some}
 use mathlib.Core.List.{List, [], _∷_, _++_}
-use Prim.Native.Nat.{ℕ, _<_}
+use Prim.Native.Nat.{ℕ, suc, _<_}
 use borrow.Author.Tests.{eqb-true, eqb-false, ne-eqb}
 use lib.Dec.{eqb}
 use lib.IntN.{ℤ, pos}
 use lib.ListN.{length, set, length-set}
 use lib.Seq.{getD-set-same, getD-set-other}
-use Rattle.machine.specs.Settings.{settingCount, Environment, valueIn, Entry, entry, named, _orIf_, _orElse_, isSome, lookup, Holds, Distinct, after, carry}
+use Rattle.machine.specs.Settings.{settingCount, Environment, valueIn, Entry, entry, named, replaceFirst, _orIf_, _orElse_, isSome, lookup, Holds, Distinct, after, carry}
 use Rattle.machine.proofs.Cases.{true-is-not-false}
 
 -- ---- carrying writes
@@ -104,3 +104,33 @@ distinct-more s v (e ∷ l) b h d = go (eqb (e .setting) s) refl h (distinct-mor
     go : (t : Bool) → eqb (e .setting) s ≡ t → cond t true (named s l) ≡ false → (s < settingCount → named s l ≡ false → Distinct l → Distinct (l ++ (entry s v ∷ []))) → Distinct (e ∷ (l ++ (entry s v ∷ [])))
     go true q h ih = true-is-not-false h
     go false q h ih = (d .0, named-more (e .setting) s v l (d .1) (ne-eqb s (e .setting) (λ w. eqb-false (e .setting) s q (sym w))), ih b h (d .2))
+
+-- ---- an entry's value replaced
+
+pub length-replaced : (s : ℕ) (v : ℤ) (l : List Entry) → length (replaceFirst s v l) ≡ length l
+unfolding replaceFirst
+length-replaced s v [] = refl
+length-replaced s v (e ∷ l) = go (eqb (e .setting) s) (length-replaced s v l)
+  where
+    go : (t : Bool) → length (replaceFirst s v l) ≡ length l → length (cond t (entry s v ∷ l) (e ∷ replaceFirst s v l)) ≡ suc (length l)
+    go true ih = refl
+    go false ih = ap suc ih
+
+-- the same settings stand in the list
+named-replaced : (s t : ℕ) (v : ℤ) (l : List Entry) → named t (replaceFirst s v l) ≡ named t l
+unfolding replaceFirst named
+named-replaced s t v [] = refl
+named-replaced s t v (e ∷ l) = go (eqb (e .setting) s) refl (named-replaced s t v l)
+  where
+    go : (b : Bool) → eqb (e .setting) s ≡ b → named t (replaceFirst s v l) ≡ named t l → named t (cond b (entry s v ∷ l) (e ∷ replaceFirst s v l)) ≡ named t (e ∷ l)
+    go true q ih = let w : e .setting ≡ s = eqb-true (e .setting) s q in rw w
+    go false q ih = ap (λ (b : Bool). cond (eqb (e .setting) t) true b) ih
+
+pub distinct-replaced : (s : ℕ) (v : ℤ) (l : List Entry) → Distinct l → Distinct (replaceFirst s v l)
+unfolding replaceFirst Distinct
+distinct-replaced s v [] d = tt
+distinct-replaced s v (e ∷ l) d = go (eqb (e .setting) s) refl (distinct-replaced s v l (d .2))
+  where
+    go : (b : Bool) → eqb (e .setting) s ≡ b → Distinct (replaceFirst s v l) → Distinct (cond b (entry s v ∷ l) (e ∷ replaceFirst s v l))
+    go true q ih = let w : e .setting ≡ s = eqb-true (e .setting) s q in (rw (← w) (d .0), rw (← w) (d .1), d .2)
+    go false q ih = (d .0, named-replaced s (e .setting) v l ∙ d .1, ih)

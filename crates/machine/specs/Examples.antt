@@ -1,4 +1,4 @@
--- Worked programs: some of document 01's cases, a fault of each kind, and the bounds of the form test. Each table is proved by computation.
+-- Worked programs: some of document 01's cases, a fault of each kind, the rules of version 1 (document 02, R-6), and the bounds of the form test. Each table is proved by computation.
 use mathlib.Core.Path.{_≡_, refl}
 use mathlib.Core.Bool.{Bool, true, false}
 use mathlib.Core.List.{List, [], _∷_, _++_, map}
@@ -8,23 +8,27 @@ use lib.IntN.{ℤ, pos, negsuc}
 use lib.ListN.{replicate}
 use Rattle.words.specs.Words.{patternOf, numberOf, wrap, floorDiv, onesOf}
 use Rattle.machine.specs.declared.Instruction.{Instruction}
-use Rattle.machine.specs.Settings.{Entry, entry, named, lookup, after}
+use Rattle.machine.specs.Settings.{Entry, entry, named, firstValue, replaceFirst, lookup, after}
 use Rattle.machine.specs.Instruction.{Program, instructionAt, instructionsFrom, programOf}
 use Rattle.machine.specs.Form.{isWellFormed, allBelow, lengthFits, wellFormed}
 use Rattle.machine.specs.Run.{effect, shiftRight, noSetting, readsWritten, writesTwice, enter, load, store, perform, step, Ending, completed, faulted, Outcome, runFrom, runProgram}
 
--- settings that are not 0 at first, a program, and its outcome
+-- settings that are not 0 at first, a version and a program, and its outcome
 record Example : Type 0 where
   settings : List Entry
+  version : ℕ
   program : Program
   outcome : Outcome
 
 abbrev pub instruction : ℕ → ℕ → ℕ → ℕ → ℤ → Instruction
 instruction o x y z k = record { operation = o; a = x; b = y; c = z; n = k }
 
+abbrev exampleBy : ℕ → List Entry → Program → List Entry → List Entry → Ending → Example
+exampleBy rules initial code rs ws end =
+    record { settings = initial; version = rules; program = code; outcome = record { reads = rs; writes = ws; ending = end } }
+
 abbrev example : List Entry → Program → List Entry → List Entry → Ending → Example
-example initial code rs ws end =
-    record { settings = initial; program = code; outcome = record { reads = rs; writes = ws; ending = end } }
+example = exampleBy 0
 
 -- the instructions of these examples: ra = n, ra = setting n, setting n = ra
 abbrev pub constant : ℕ → ℤ → Instruction
@@ -106,18 +110,51 @@ stops-early =
     example (entry 34 (pos 7) ∷ []) (reading 0 34 ∷ reading 1 34 ∷ writing 50 1 ∷ instruction 0 0 0 0 (pos 0) ∷ writing 51 1 ∷ [])
     (entry 34 (pos 7) ∷ []) (entry 50 (pos 7) ∷ []) completed
 
+-- version 1: 34 is read, written, and read back; the read list keeps what was seen first, and 50 gets what was written
+reads-back : Example
+reads-back =
+    exampleBy 1 (entry 34 (pos 7) ∷ []) (reading 0 34 ∷ constant 1 (pos 5) ∷ writing 34 1 ∷ reading 2 34 ∷ writing 50 2 ∷ [])
+    (entry 34 (pos 7) ∷ []) (entry 34 (pos 5) ∷ entry 50 (pos 5) ∷ []) completed
+
+-- version 1: a setting that is only read back stands in no read list
+reads-own : Example
+reads-own = exampleBy 1 (entry 34 (pos 7) ∷ []) (writing 34 0 ∷ reading 1 34 ∷ []) [] (entry 34 (pos 0) ∷ []) completed
+
+-- version 1: 34 is written again, and 50 after the first time; the new value stands in 34's first place
+writes-again : Example
+writes-again =
+    exampleBy 1 [] (constant 0 (pos 5) ∷ writing 34 0 ∷ writing 50 0 ∷ constant 0 (pos 6) ∷ writing 34 0 ∷ [])
+    [] (entry 34 (pos 6) ∷ entry 50 (pos 5) ∷ []) completed
+
+-- version 1: register 0 holds 1,024, which is no setting
+leaves-settings-too : Example
+leaves-settings-too = exampleBy 1 [] (constant 0 (pos 1024) ∷ writing 34 0 ∷ instruction 14 0 0 0 (pos 0) ∷ []) [] [] (faulted noSetting 2)
+
 examples : List Example
 examples =
-    copies ∷ adds ∷ writes-twice ∷ extremes ∷ draws ∷ overdraws ∷ reads-written ∷ leaves-settings ∷ stops-early ∷ []
+    copies
+    ∷ adds
+    ∷ writes-twice
+    ∷ extremes
+    ∷ draws
+    ∷ overdraws
+    ∷ reads-written
+    ∷ leaves-settings
+    ∷ stops-early
+    ∷ reads-back
+    ∷ reads-own
+    ∷ writes-again
+    ∷ leaves-settings-too
+    ∷ []
 
 ran : Example → Outcome
-ran e = runProgram (after (e .settings) (λ s. pos 0)) (e .program)
+ran e = runProgram (after (e .settings) (λ s. pos 0)) (e .version) (e .program)
 
 expected : Example → Outcome
 expected e = e .outcome
 
 examples-hold : map ran examples ≡ map expected examples
-unfolding examples copies adds writes-twice extremes draw draws overdraws reads-written leaves-settings stops-early ran expected runProgram runFrom step perform effect load store enter named lookup shiftRight patternOf numberOf wrap floorDiv onesOf onesIn
+unfolding examples copies adds writes-twice extremes draw draws overdraws reads-written leaves-settings stops-early reads-back reads-own writes-again leaves-settings-too ran expected runProgram runFrom step perform effect load store enter named firstValue replaceFirst lookup shiftRight patternOf numberOf wrap floorDiv onesOf onesIn
 examples-hold = refl
 
 -- ---- bytes

@@ -8,6 +8,14 @@ use Rattle.machine.specs.declared.Instruction.{Instruction}
 abbrev pub Program : Type 0
 Program = List Instruction
 
+-- a program as it is taken in and held: the version of the rules that it runs by, 0 or 1 (document 02, R-6), and its bytes
+pub record Code : Type 0 where
+  pub version : ℕ
+  pub bytes : List ℕ
+
+abbrev pub code : ℕ → List ℕ → Code
+code version bytes = record { version = version; bytes = bytes }
+
 -- the four bytes at i, low byte first
 abbrev pub wordAt : List ℕ → ℕ → ℕ
 wordAt bytes i = getD bytes i 0 + getD bytes (i + 1) 0 * 256 + (getD bytes (i + 2) 0 * 65536 + getD bytes (i + 3) 0 * 16777216)

@@ -1,8 +1,9 @@
--- The run of a program on an environment (document 01, "Instructions of a change").
+-- The run of a program on an environment, by the rules of its version (document 01, "Instructions of a change"; document 02, R-6).
 use mathlib.Core.Bool.{cond}
 use mathlib.Core.List.{List, [], _∷_, _++_}
 use Prim.Native.Nat.{ℕ, zero, suc, _^_}
 use lib.Bits.{bitAnd, bitOr, bitXor}
+use lib.Dec.{eqb}
 use lib.IntN.{ℤ, pos, _+ℤ_, _-ℤ_, negℤ, natAbs}
 use lib.ListN.{getD, set, replicate}
 use lib.Signed.{ltZ}
@@ -10,8 +11,8 @@ use Rattle.words.specs.Words.{patternOf, numberOf, wrap, floorDiv, onesOf, isZe
 use Rattle.machine.specs.declared.Effect.{Effect}
 use Rattle.machine.specs.declared.Effect.the-variants.{Halt, Assign, Load, Store, Skip}
 use Rattle.machine.specs.declared.Instruction.{Instruction}
-use Rattle.machine.specs.Settings.{Environment, Entry, entry, named, settingCount}
-use Rattle.machine.specs.Instruction.{Program, programOf}
+use Rattle.machine.specs.Settings.{Environment, Entry, entry, named, firstValue, replaceFirst, settingCount}
+use Rattle.machine.specs.Instruction.{Program, programOf, Code}
 use Rattle.machine.specs.Form.{isBelow}
 
 -- ---- what an instruction does
@@ -58,14 +59,15 @@ effect i registers =
 
 -- ---- one step
 
--- why a run faults: a register names no setting, it reads a setting that it has written, it writes one twice
+-- why a run faults: a register names no setting; and in version 0, it reads a setting that it has written, it writes one twice
 pub data Fault : Type 0 where
   noSetting : Fault
   readsWritten : Fault
   writesTwice : Fault
 
--- the registers, the read list and the write list between two instructions
+-- the version, which stays, and the registers, the read list and the write list between two instructions
 pub record State : Type 0 where
+  pub version : ℕ
   pub registers : List ℤ
   pub reads : List Entry
   pub writes : List Entry
@@ -80,22 +82,36 @@ pub data Next : Type 0 where
 unfoldable pub enter : ℕ → ℤ → List Entry → List Entry
 enter s v l = cond (named s l) l (l ++ (entry s v ∷ []))
 
--- register a is set to setting s
+-- the state with register a set to v, and with another read list or write list
+abbrev pub withRegister : ℕ → ℤ → State → State
+withRegister a v state = record { version = state .version; registers = set (state .registers) a v; reads = state .reads; writes = state .writes }
+
+abbrev pub withReads : List Entry → State → State
+withReads reads state = record { version = state .version; registers = state .registers; reads = reads; writes = state .writes }
+
+abbrev pub withWrites : List Entry → State → State
+withWrites writes state = record { version = state .version; registers = state .registers; reads = state .reads; writes = writes }
+
+-- what follows a second use of a setting that the run has written: a fault in version 0, else the state by the rules of version 1
+abbrev pub onceWritten : Fault → State → State → Next
+onceWritten fault state allowed = cond (eqb (state .version) 0) (faults fault (state .reads)) (goes 0 allowed)
+
+-- register a is set to setting s. "Version 1 reads its own written value, which enters no read list" (document 02, R-6)
 unfoldable pub load : Environment → ℕ → ℕ → State → Next
 load env a s state =
-    cond (named s (state .writes)) (faults readsWritten (state .reads))
-    (goes 0 (record { registers = set (state .registers) a (env s); reads = enter s (env s) (state .reads); writes = state .writes }))
+    cond (named s (state .writes)) (onceWritten readsWritten state (withRegister a (firstValue s (state .writes)) state))
+    (goes 0 (withRegister a (env s) (withReads (enter s (env s) (state .reads)) state)))
 
--- setting s is set to v
+-- setting s is set to v. In version 1 "a second write replaces the value in its first place in the list" (document 02, R-6)
 unfoldable pub store : ℕ → ℤ → State → Next
 store s v state =
-    cond (named s (state .writes)) (faults writesTwice (state .reads))
-    (goes 0 (record { registers = state .registers; reads = state .reads; writes = state .writes ++ (entry s v ∷ []) }))
+    cond (named s (state .writes)) (onceWritten writesTwice state (withWrites (replaceFirst s v (state .writes)) state))
+    (goes 0 (withWrites (state .writes ++ (entry s v ∷ [])) state))
 
 -- an effect carried out
 unfoldable pub perform : Environment → Effect → State → Next
 perform env Halt state = stops state
-perform env (Assign a v) state = goes 0 (record { registers = set (state .registers) a v; reads = state .reads; writes = state .writes })
+perform env (Assign a v) state = goes 0 (withRegister a v state)
 perform env (Load a s) state = cond (isBelow s settingCount) (load env a (natAbs s) state) (faults noSetting (state .reads))
 perform env (Store s v) state = cond (isBelow s settingCount) (store (natAbs s) v state) (faults noSetting (state .reads))
 perform env (Skip n) state = goes (natAbs n) state
@@ -147,12 +163,12 @@ runFrom env place (i ∷ rest) (suc skipped) state = runFrom env (suc place) res
 runFrom env place (i ∷ rest) zero state = continue (runFrom env (suc place) rest) place (step env i state)
 
 -- registers 0 to 7 start at 0
-abbrev pub start : State
-start = record { registers = replicate 8 (pos 0); reads = []; writes = [] }
+abbrev pub start : ℕ → State
+start version = record { version = version; registers = replicate 8 (pos 0); reads = []; writes = [] }
 
-unfoldable pub runProgram : Environment → Program → Outcome
-runProgram env program = runFrom env 0 program 0 start
+unfoldable pub runProgram : Environment → ℕ → Program → Outcome
+runProgram env version program = runFrom env 0 program 0 (start version)
 
--- the run of a program's bytes
-unfoldable pub run : Environment → List ℕ → Outcome
-run env bytes = runProgram env (programOf bytes)
+-- the run of a program as it is held
+unfoldable pub run : Environment → Code → Outcome
+run env p = runProgram env (p .version) (programOf (p .bytes))

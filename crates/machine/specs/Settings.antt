@@ -51,6 +51,16 @@ unfoldable pub named : ℕ → List Entry → Bool
 named s [] = false
 named s (e ∷ l) = cond (eqb (e .setting) s) true (named s l)
 
+-- the value of the first entry that names the setting; 0 where none does
+unfoldable pub firstValue : ℕ → List Entry → ℤ
+firstValue s [] = pos 0
+firstValue s (e ∷ l) = cond (eqb (e .setting) s) (e .value) (firstValue s l)
+
+-- the list with the value v in the first entry that names the setting
+unfoldable pub replaceFirst : ℕ → ℤ → List Entry → List Entry
+replaceFirst s v [] = []
+replaceFirst s v (e ∷ l) = cond (eqb (e .setting) s) (entry s v ∷ l) (e ∷ replaceFirst s v l)
+
 -- the first k entries of a list that stands as two columns, settings and values
 unfoldable pub entries : ℕ → List ℕ → List ℤ → List Entry
 entries zero settings values = []

@@ -7,6 +7,7 @@ use lib.IntN.{pos}
 use lib.ListN.{length, getD, set, take, drop, take-append-drop}
 use lib.Seq.{map-set-same}
 use Rattle.machine.proofs.Cases.{impossible}
+use Rattle.machine.specs.Instruction.{Code}
 use Rattle.model.specs.History.{New, Lists, Change, change, timestamp, program, status, withdrawn, lists, History}
 use Rattle.model.specs.Figure.{markUpdate}
 use Rattle.model.specs.Walk.{markLive, close}
@@ -17,7 +18,7 @@ use Rattle.model.proofs.Blocks.{blocks-same}
 use Rattle.model.proofs.Cabinet.{length-putAt, changesAt-other}
 
 abbrev pub withStatus : Tables → List ℕ → Tables
-withStatus T status = tables (T .held) (T .timestamps) (T .order) status (T .withdrawn) (T .lengths) (T .programs) (T .reads) (T .writes) (T .sources) (T .seen) (T .targets) (T .written) (T .view)
+withStatus T status = tables (T .held) (T .timestamps) (T .order) status (T .withdrawn) (T .lengths) (T .programs) (T .reads) (T .writes) (T .sources) (T .seen) (T .targets) (T .written) (T .view) (T .versions)
 
 -- a change without its status
 abbrev pub unstated : Change → Change
@@ -41,16 +42,16 @@ put-restated (i ∷ places) (c ∷ h) changes d e =
 -- ---- the columns
 
 -- a field of a change that does not tell the status
-abbrev pub fieldOf : {B : Type 0} → (ℕ → List ℕ → Bool → Lists → B) → Change → B
+abbrev pub fieldOf : {B : Type 0} → (ℕ → Code → Bool → Lists → B) → Change → B
 fieldOf g d = g (timestamp d) (program d) (withdrawn d) (lists d)
 
-field-same : {B : Type 0} (g : ℕ → List ℕ → Bool → Lists → B) (c d : Change) → unstated c ≡ unstated d → fieldOf g c ≡ fieldOf g d
+field-same : {B : Type 0} (g : ℕ → Code → Bool → Lists → B) (c d : Change) → unstated c ≡ unstated d → fieldOf g c ≡ fieldOf g d
 field-same g c d e = unstate c ∙ ap (fieldOf g) e ∙ sym (unstate d)
   where
     unstate : (c : Change) → fieldOf g c ≡ fieldOf g (unstated c)
     unstate (change t p s w l) = refl
 
-pub fields-same : {B : Type 0} (g : ℕ → List ℕ → Bool → Lists → B) (a b : List Change) → Restated b a → map (fieldOf g) a ≡ map (fieldOf g) b
+pub fields-same : {B : Type 0} (g : ℕ → Code → Bool → Lists → B) (a b : List Change) → Restated b a → map (fieldOf g) a ≡ map (fieldOf g) b
 fields-same g [] [] e = refl
 fields-same g [] (d ∷ b) e = impossible (cc)
 fields-same g (c ∷ a) [] e = impossible (cc)
@@ -65,7 +66,7 @@ module _ (n : ℕ) (c : Cabinet) (s : Placed c) (h : History) (r : Restated (his
   abbrev changes : List Change
   changes = putAt (c .order) h (c .changes)
 
-  map-same : {B : Type 0} (g : ℕ → List ℕ → Bool → Lists → B) → map (fieldOf g) changes ≡ map (fieldOf g) (c .changes)
+  map-same : {B : Type 0} (g : ℕ → Code → Bool → Lists → B) → map (fieldOf g) changes ≡ map (fieldOf g) (c .changes)
   map-same g = fields-same g changes (c .changes) (put-restated (c .order) h (c .changes) (s .distinct) r)
 
   pub restated : encode n (withHistory c h (c .view)) ≡ withStatus (encode n c) (encode n (withHistory c h (c .view)) .status)
@@ -74,16 +75,17 @@ module _ (n : ℕ) (c : Cabinet) (s : Placed c) (h : History) (r : Restated (his
       let held = ap (_∷ []) (length-putAt (c .order) h (c .changes)) in
       let timestamps = ap (pad n 0) (map-same (λ t p w l. t)) in
       let withdrawn = ap (pad n 0) (map-same (λ t p w l. flagNumber w)) in
-      let lengths = ap (pad n 0) (map-same (λ t p w l. length p / 8)) in
-      let programs = blocks-same n 256 0 program changes (c .changes) (map-same (λ t p w l. p)) in
+      let lengths = ap (pad n 0) (map-same (λ t p w l. length (p .bytes) / 8)) in
+      let programs = blocks-same n 256 0 (λ d. program d .bytes) changes (c .changes) (map-same (λ t p w l. p .bytes)) in
       let reads = ap (pad n 0) (map-same (λ t p w l. length (l .reads))) in
       let writes = ap (pad n 0) (map-same (λ t p w l. length (l .writes))) in
       let sources = blocks-same n 32 0 (λ d. settingsOf (lists d .reads)) changes (c .changes) (map-same (λ t p w l. settingsOf (l .reads))) in
       let seen = blocks-same n 32 (pos 0) (λ d. valuesOf (lists d .reads)) changes (c .changes) (map-same (λ t p w l. valuesOf (l .reads))) in
       let targets = blocks-same n 32 0 (λ d. settingsOf (lists d .writes)) changes (c .changes) (map-same (λ t p w l. settingsOf (l .writes))) in
       let written = blocks-same n 32 (pos 0) (λ d. valuesOf (lists d .writes)) changes (c .changes) (map-same (λ t p w l. valuesOf (l .writes))) in
+      let versions = ap (pad n 0) (map-same (λ t p w l. p .version)) in
       λ j.
-      tables (held j) (timestamps j) (encode n c .order) (encode n (withHistory c h (c .view)) .status) (withdrawn j) (lengths j) (programs j) (reads j) (writes j) (sources j) (seen j) (targets j) (written j) (c .view)
+      tables (held j) (timestamps j) (encode n c .order) (encode n (withHistory c h (c .view)) .status) (withdrawn j) (lengths j) (programs j) (reads j) (writes j) (sources j) (seen j) (targets j) (written j) (c .view) (versions j)
 
 -- ---- marking
 

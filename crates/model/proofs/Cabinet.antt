@@ -8,6 +8,7 @@ use lib.Dec.{eqb, ltb}
 use lib.IntN.{ℤ}
 use lib.ListN.{length, getD, set, length-append, length-map, length-set, List·getD-append}
 use lib.Seq.{getD-set-same, getD-set-other, getD-append-seam, set-getD, set-set, set-comm}
+use Rattle.machine.specs.Instruction.{Code}
 use Rattle.machine.proofs.Cases.{by-test, of-choice}
 use Rattle.model.specs.History.{New, empty, Change, change, timestamp, History}
 use Rattle.model.specs.Walk.{insert}
@@ -131,7 +132,7 @@ module _ (changes : List Change) (t place : ℕ) where
 
 -- ---- taking in
 
-pub add-history : (t : ℕ) (p : List ℕ) (c : Cabinet) → Placed c → historyOf (add t p c) ≡ insert t p (historyOf c)
+pub add-history : (t : ℕ) (p : Code) (c : Cabinet) → Placed c → historyOf (add t p c) ≡ insert t p (historyOf c)
 add-history t p c k = entered (c .order) (k .below)
   where
     all : List Change
@@ -147,7 +148,7 @@ add-history t p c k = entered (c .order) (k .below)
         (ap₂ _∷_ last (changesAt-more (c .changes) (change t p New false empty ∷ []) (i ∷ order) b))
         (ap₂ _∷_ (List·getD-append (c .changes) (change t p New false empty ∷ []) blank i (b .0)) (entered order (b .1)))
 
-pub add-placed : (t : ℕ) (p : List ℕ) (c : Cabinet) → Placed c → Placed (add t p c)
+pub add-placed : (t : ℕ) (p : Code) (c : Cabinet) → Placed c → Placed (add t p c)
 add-placed t p c k =
     let count = length (c .changes) in
     let n : length (c .changes ++ (change t p New false empty ∷ [])) ≡ suc count = simp length-append (omega arith) in

@@ -74,10 +74,10 @@ module _ (n : ℕ) (T : Tables) (g : Lengths n T) (f : FormTests n T) (i : ℕ) 
   program-short : 8 * getD (T .lengths) i 0 ≤ 256
   program-short = omega (arith, f .programs i h .short)
 
-  program-length : length (programAt T i) ≡ 8 * getD (T .lengths) i 0
+  program-length : length (programAt T i .bytes) ≡ 8 * getD (T .lengths) i 0
   program-length = slots-length n 256 i (8 * getD (T .lengths) i 0) (T .programs) (g .programs) within program-short
 
-  program-block : slots 256 i 256 (T .programs) ≡ pad 256 0 (programAt T i)
+  program-block : slots 256 i 256 (T .programs) ≡ pad 256 0 (programAt T i .bytes)
   program-block =
       slots-pad n 256 i (8 * getD (T .lengths) i 0) (T .programs) (g .programs) within program-short 0
       (zeros _ _ (restOf-length n 256 i (8 * getD (T .lengths) i 0) (T .programs) (g .programs) within program-short) (f .programs i h .rest))
@@ -93,7 +93,8 @@ module _ (n : ℕ) (T : Tables) (g : Lengths n T) (f : FormTests n T) (i : ℕ) 
       record {
         above = f .heads i h .above;
         below = f .heads i h .below;
-        sized = length-fits (programAt T i) (getD (T .lengths) i 0) (f .programs i h .short) program-length;
+        sized = length-fits (programAt T i .bytes) (getD (T .lengths) i 0) (f .programs i h .short) program-length;
+        versioned = f .heads i h .version;
         formed = f .programs i h .formed;
         reads = reads-laid .bounded;
         writes = writes-laid .bounded;
@@ -196,8 +197,8 @@ module _ (n : ℕ) (T : Tables) (g : Lengths n T) (f : FormTests n T) where
         order = sym (pad-is n 0 (heldCount T) (T .order) (g .order) (f .small) (zeros-from _ _ _ (g .order) (u .order))) j;
         status = column-back (T .status) (λ d. statusNumber (status d)) refl (g .status) (λ i h. sym (status-known (getD (T .status) i 0) (f .heads i h .status))) (u .status) j;
         withdrawn = column-back (T .withdrawn) (λ d. flagNumber (withdrawn d)) refl (g .withdrawn) (λ i h. sym (flag-known (getD (T .withdrawn) i 0) (f .heads i h .withdrawn))) (u .withdrawn) j;
-        lengths = column-back (T .lengths) (λ d. length (program d) / 8) refl (g .lengths) (λ i h. omega (arith, program-length n T g f i h)) (u .lengths) j;
-        programs = blocks-back 256 0 program (T .programs) (g .programs) (program-block n T g f) (zeros-from _ _ _ (g .programs) (u .programs)) j;
+        lengths = column-back (T .lengths) (λ d. length (program d .bytes) / 8) refl (g .lengths) (λ i h. omega (arith, program-length n T g f i h)) (u .lengths) j;
+        programs = blocks-back 256 0 (λ d. program d .bytes) (T .programs) (g .programs) (program-block n T g f) (zeros-from _ _ _ (g .programs) (u .programs)) j;
         reads = column-back (T .reads) (λ d. length (lists d .reads)) refl (g .reads) (λ i h. sym (reads-laid n T g f i h .count)) (u .reads) j;
         writes = column-back (T .writes) (λ d. length (lists d .writes)) refl (g .writes) (λ i h. sym (writes-laid n T g f i h .count)) (u .writes) j;
         sources = blocks-back 32 0 (λ d. settingsOf (lists d .reads)) (T .sources) (g .sources) (λ i h. reads-laid n T g f i h .settings-block) (zeros-from _ _ _ (g .sources) (u .sources)) j;
@@ -205,4 +206,5 @@ module _ (n : ℕ) (T : Tables) (g : Lengths n T) (f : FormTests n T) where
         targets = blocks-back 32 0 (λ d. settingsOf (lists d .writes)) (T .targets) (g .targets) (λ i h. writes-laid n T g f i h .settings-block) (zeros-from _ _ _ (g .targets) (u .targets)) j;
         written = blocks-back 32 (pos 0) (λ d. valuesOf (lists d .writes)) (T .written) (g .written) (λ i h. writes-laid n T g f i h .values-block) (zerosZ-from _ _ _ (g .written) (u .written)) j;
         view = T .view;
+        versions = column-back (T .versions) (λ d. program d .version) refl (g .versions) (λ i h. refl) (u .versions) j;
       }

@@ -8,6 +8,7 @@ use native.Mathlib.Omega.{arith}
 use lib.IntN.{ℤ}
 use lib.ListN.{length}
 use Rattle.machine.specs.Settings.{Environment, after}
+use Rattle.machine.specs.Instruction.{Code}
 use Rattle.machine.specs.Run.{run}
 use Rattle.model.specs.History.{New, Valid, Invalid, Lists, empty, runLists, Change, change, timestamp, History, allHold}
 use Rattle.model.specs.Figure.{Event, ran, stood, cleared, eventTimestamp, Step, idle, turned, lowestWaiting, roundAt, round}
@@ -48,12 +49,12 @@ abbrev OrderedStep : History → Step → Type 0
 OrderedStep h idle = AllValid h
 OrderedStep h (turned h' view e) = Ordered h h' e
 
-ordered-pass : (t : ℕ) (p : List ℕ) (w : Bool) (l : Lists) (h : History) (s : Step) → OrderedStep h s → OrderedStep (change t p Valid w l ∷ h) (pass (change t p Valid w l) s)
+ordered-pass : (t : ℕ) (p : Code) (w : Bool) (l : Lists) (h : History) (s : Step) → OrderedStep h s → OrderedStep (change t p Valid w l ∷ h) (pass (change t p Valid w l) s)
 ordered-pass t p w l h idle k = k
 ordered-pass t p w l h (turned h' view e) k = record { lowest = k .lowest; later = k .later; more-valid = omega arith }
 
 -- the first change had the turn
-ordered-first : (c : Change) (h h' : History) (p : List ℕ) (w : Bool) (new : Lists) (e : Event) → lowestWaiting (c ∷ h) ≡ some c → validBefore (c ∷ h) ≡ 0 → eventTimestamp e ≡ timestamp c → Rising (timestamp c) h' → Ordered (c ∷ h) (change (timestamp c) p Valid w new ∷ h') e
+ordered-first : (c : Change) (h h' : History) (p : Code) (w : Bool) (new : Lists) (e : Event) → lowestWaiting (c ∷ h) ≡ some c → validBefore (c ∷ h) ≡ 0 → eventTimestamp e ≡ timestamp c → Rising (timestamp c) h' → Ordered (c ∷ h) (change (timestamp c) p Valid w new ∷ h') e
 ordered-first c h h' p w new e k z q r =
     record { lowest = λ a f. rw q (f c k); later = rw q (rising-waits (timestamp c) h' r); more-valid = omega arith }
 

@@ -1,5 +1,5 @@
 -- The tables of a sound cabinet have the right lengths and pass every test of form.
-use mathlib.Core.Path.{_≡_, refl, sym, ap, _∙_}
+use mathlib.Core.Path.{_≡_, refl, sym, ap, subst⁻¹, _∙_}
 use mathlib.Core.Bool.{Bool, true, false}
 use mathlib.Core.List.{List, []}
 use Prim.Native.Nat.{ℕ, suc, _≤_, _<_}
@@ -8,6 +8,8 @@ use lib.IntN.{pos}
 use lib.ListN.{length, getD, length-map}
 use lib.Seq.{drop-at}
 use Rattle.machine.specs.Settings.{Entry, Bounded}
+use Rattle.machine.specs.Instruction.{Code}
+use Rattle.machine.specs.Form.{wellFormed}
 use Rattle.model.specs.History.{Status, New, Valid, Invalid, Lists, Change, timestamp, program, status, withdrawn, lists}
 use Rattle.model.specs.Cabinet.{Cabinet, blank, historyOf}
 use Rattle.model.specs.Tables.{statusNumber, statusOf, flagNumber, column, blocks, settingsOf, valuesOf, encode}
@@ -17,7 +19,7 @@ use Rattle.model.proofs.Blocks.{pad-length, column-length, column-get, 
 use Rattle.model.proofs.Entries.{distinct-fits}
 use Rattle.model.proofs.Tests.{zeros-pass, zerosZ-pass, Lengths, Head, Programmed, TestedList, Unused, FormTests}
 use Rattle.model.proofs.Order.{changesAt-length, changesAt-get, rising-next, below-at}
-use Rattle.model.proofs.Tables.{length-short, sound-at, programs-fit, reads-fit, writes-fit, settings-fit, values-fit, settings-back, timestamp-at, order-at, status-at, withdrawn-at, length-at, reads-at, writes-at, status-back, length-back, program-back}
+use Rattle.model.proofs.Tables.{length-short, sound-at, programs-fit, reads-fit, writes-fit, settings-fit, values-fit, settings-back, timestamp-at, order-at, status-at, withdrawn-at, length-at, reads-at, writes-at, version-at, status-back, length-back, program-back}
 
 -- ---- lengths, and the slots of places that are not held
 
@@ -49,6 +51,7 @@ columns n c s =
         targets = rw blocks-length;
         written = rw blocks-length;
         view = s .viewed;
+        versions = rw column-length;
       },
       record {
         timestamps = rw (column-rest, zeros-pass);
@@ -63,6 +66,7 @@ columns n c s =
         seen = rw (blocks-rest, zerosZ-pass);
         targets = rw (blocks-rest, zeros-pass);
         written = rw (blocks-rest, zerosZ-pass);
+        versions = rw (column-rest, zeros-pass);
       },
     )
 
@@ -95,15 +99,16 @@ module _ (n : ℕ) (c : Cabinet) (s : Sound n c) (i : ℕ) (h : i < length (c .c
             λ e.
             let none = sound .new (sym (status-back _) ∙ ap statusOf (sym (status-at n c i) ∙ e)) in
             (reads-at n c i ∙ ap (λ (l : Lists). length (l .reads)) none, writes-at n c i ∙ ap (λ (l : Lists). length (l .writes)) none);
+        version = rw (version-at n c i) (sound .versioned);
       }
 
   encode-program : Programmed (encode n c) i
   unfolding encode
   encode-program =
       record {
-        short = omega (arith, length-at n c i, length-short (program (getD (c .changes) i blank)) (sound .sized));
-        formed = rw (program-back n c s i h) (sound .formed);
-        rest = rw (length-back n c s i h, blocks-unused n 256 0 program (c .changes) i (programs-fit (c .changes) (s .each)) h, zeros-pass);
+        short = omega (arith, length-at n c i, length-short (program (getD (c .changes) i blank) .bytes) (sound .sized));
+        formed = subst⁻¹ (λ (p : Code). wellFormed (p .bytes) ≡ true) (program-back n c s i h) (sound .formed);
+        rest = rw (length-back n c s i h, blocks-unused n 256 0 (λ d. program d .bytes) (c .changes) i (programs-fit (c .changes) (s .each)) h, zeros-pass);
       }
 
 -- a list of entries, in its count and its two columns

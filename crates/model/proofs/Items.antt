@@ -3,11 +3,12 @@ use mathlib.Core.Path.{_≡_, refl, sym, ap, ap₂, _∙_}
 use mathlib.Core.Bool.{true, false, cond, and-true}
 use mathlib.Core.List.{List, [], _∷_, _++_, map}
 use mathlib.Core.Option.{Option, none, some}
-use Prim.Native.Nat.{ℕ, suc, _<_}
+use Prim.Native.Nat.{ℕ, suc, _≤_, _<_}
 use native.Mathlib.Omega.{arith}
-use borrow.Author.Tests.{ltb-true, leb-false, eqb-true, not-false}
+use borrow.Author.Tests.{ltb-true, leb-true, leb-false, eqb-true, not-false}
 use lib.Dec.{eqb, ltb}
 use lib.ListN.{length}
+use Rattle.machine.specs.Instruction.{Code}
 use Rattle.machine.specs.Form.{lengthFits, wellFormed}
 use Rattle.machine.proofs.Cases.{by-test, of-choice, impossible, both}
 use Rattle.model.specs.declared.Answer.{Answer}
@@ -15,7 +16,7 @@ use Rattle.model.specs.declared.Answer.the-variants as answer
 use Rattle.model.specs.History.{infinity, Change, change, History}
 use Rattle.model.specs.Walk.{insert}
 use Rattle.model.specs.Cabinet.{Cabinet, historyOf, find}
-use Rattle.model.specs.Refusals.{Test, firstOf, noTimestamp, wrongProgramLength, malformed, isHeld, heldOtherwise, full}
+use Rattle.model.specs.Refusals.{Test, firstOf, noTimestamp, wrongProgramLength, noVersion, malformed, isHeld, heldOtherwise, full}
 use Rattle.model.specs.Package.{Item, taking, withdrawing}
 use Rattle.model.specs.Book.{booked, enter, strike, bookedAs, bookOf}
 use Rattle.model.specs.Calls.{answerNumber, itemRefusal, itemAccepted, itemAnswer, itemDone, ifDone, itemStep, itemAnswers, itemSteps}
@@ -60,12 +61,13 @@ done-accepted n c i e =
     (λ q d. (eqb-true (itemRefusal n c i) 0 q, d))
     (λ q d. impossible (cc)) e
 
--- the timestamp is one, the program has its length and form, the timestamp is not held, and a place is left
-pub record TakingDone (n : ℕ) (c : Cabinet) (t : ℕ) (p : List ℕ) : Type 0 where
+-- the timestamp is one, the program has its length, a version and its form, the timestamp is not held, and a place is left
+pub record TakingDone (n : ℕ) (c : Cabinet) (t : ℕ) (p : Code) : Type 0 where
   pub above : 0 < t
   pub below : t < infinity
-  pub sized : lengthFits p ≡ true
-  pub formed : wellFormed p ≡ true
+  pub sized : lengthFits (p .bytes) ≡ true
+  pub versioned : p .version ≤ 1
+  pub formed : wellFormed (p .bytes) ≡ true
   pub not-held : find t (historyOf c) ≡ none
   pub room : length (c .changes) < n
 
@@ -73,19 +75,20 @@ not-held-none : (found : Option Change) → cond (isHeld found) answer.Held answ
 not-held-none none e = refl
 not-held-none (some u) e = cc
 
-pub taking-done : (n : ℕ) (c : Cabinet) (t : ℕ) (p : List ℕ) → itemAnswer n c (taking t p) ≡ answer.Done → TakingDone n c t p
+pub taking-done : (n : ℕ) (c : Cabinet) (t : ℕ) (p : Code) → itemAnswer n c (taking t p) ≡ answer.Done → TakingDone n c t p
 taking-done n c t p e =
     let accepted = done-accepted n c (taking t p) e in
-    let z = none-applies (noTimestamp t ∷ wrongProgramLength p ∷ malformed p ∷ heldOtherwise c t p ∷ full n c t ∷ []) (omega arith) (accepted .0) in
+    let z = none-applies (noTimestamp t ∷ wrongProgramLength p ∷ noVersion p ∷ malformed p ∷ heldOtherwise c t p ∷ full n c t ∷ []) (omega arith) (accepted .0) in
     let stamped = both (ltb 0 t) (not-false _ (z .0)) in
     let found = not-held-none (find t (historyOf c)) (accepted .1) in
     record {
       above = ltb-true 0 t (stamped .0);
       below = ltb-true t infinity (stamped .1);
-      sized = not-false (lengthFits p) (z .1 .0);
-      formed = not-false (wellFormed p) (z .1 .1 .0);
+      sized = not-false (lengthFits (p .bytes)) (z .1 .0);
+      versioned = leb-true (p .version) 1 (not-false _ (z .1 .1 .0));
+      formed = not-false (wellFormed (p .bytes)) (z .1 .1 .1 .0);
       not-held = found;
-      room = leb-false n (length (c .changes)) (sym (and-true _) ∙ (rw found at (z .1 .1 .1 .1 .0)));
+      room = leb-false n (length (c .changes)) (sym (and-true _) ∙ (rw found at (z .1 .1 .1 .1 .1 .0)));
     }
 
 -- ---- answers and their numbers
@@ -106,7 +109,7 @@ number-done n c i x y =
 pub item-sound : {n : ℕ} {c : Cabinet} (i : Item) → Sound n c → Sound n (itemStep n c i)
 item-sound {n} {c} (taking t p) s =
     by-answer (Sound n) (itemAnswer n c (taking t p))
-    (λ e. let k = taking-done n c t p e in add-sound t p s (k .room) (k .above) (k .below) (k .sized) (k .formed) (k .not-held)) s
+    (λ e. let k = taking-done n c t p e in add-sound t p s (k .room) (k .above) (k .below) (k .sized) (k .versioned) (k .formed) (k .not-held)) s
 item-sound {n} {c} (withdrawing t) s = by-answer (Sound n) (itemAnswer n c (withdrawing t)) (λ e. remove-sound t s) s
 
 pub items-sound : {n : ℕ} {c : Cabinet} (items : List Item) → Sound n c → Sound n (itemSteps n c items)
@@ -119,7 +122,7 @@ length-itemAnswers n c (i ∷ items) = ap suc (length-itemAnswers n (itemStep n 
 
 -- ---- the book
 
-book-insert : (t : ℕ) (p : List ℕ) (h : History) → bookOf (insert t p h) ≡ enter t p (bookOf h)
+book-insert : (t : ℕ) (p : Code) (h : History) → bookOf (insert t p h) ≡ enter t p (bookOf h)
 book-insert t p [] = refl
 book-insert t p (change u q s w l ∷ h) = of-choice bookOf (ltb t u) refl (ap (booked u q w ∷_) (book-insert t p h))
 

@@ -3,13 +3,14 @@ use mathlib.Core.Path.{_≡_, refl, sym, ap, ap₂, _∙_}
 use mathlib.Core.Bool.{Bool, true, false}
 use mathlib.Core.List.{List, [], _∷_, map}
 use mathlib.Core.Option.{Option, none, some}
-use Prim.Native.Nat.{ℕ, zero, suc, _<_}
+use Prim.Native.Nat.{ℕ, zero, suc, _≤_, _<_}
 use native.Mathlib.Omega.{arith}
 use borrow.Author.Tests.{ltb-true, ltb-false, eqb-true, eqb-false}
 use lib.Dec.{ltb, eqb}
 use lib.IntN.{ℤ}
 use lib.ListN.{length, length-map, length-append}
 use Rattle.machine.specs.Settings.{settingCount, Environment}
+use Rattle.machine.specs.Instruction.{Code}
 use Rattle.machine.specs.Form.{lengthFits, wellFormed}
 use Rattle.machine.specs.Run.{run}
 use Rattle.machine.proofs.Cases.{by-test, impossible}
@@ -78,7 +79,7 @@ replace-sound : (t : ℕ) (new u : Change) → ChangeSound new → ChangeSound u
 replace-sound t new u k k' = by-test ChangeSound (eqb (timestamp u) t) (λ q. k) (λ q. k')
 
 module _ (h : History) (view : List ℤ) (upto : Environment) where
-  install-keeps : (t : ℕ) (p : List ℕ) (w : Bool) (old new : Lists) (event : Event) → (AllSound h → ChangeSound (change t p Valid w new)) → StepKeeps h view (install h view upto t p w old new event)
+  install-keeps : (t : ℕ) (p : Code) (w : Bool) (old new : Lists) (event : Event) → (AllSound h → ChangeSound (change t p Valid w new)) → StepKeeps h view (install h view upto t p w old new event)
   install-keeps t p w old new event k =
       record {
         timestamps = map-timestamps _ (λ u. replace-timestamp t (change t p Valid w new) (markFuture h t (changeset old new upto) u) refl ∙ mark-timestamp _ u) h;
@@ -184,7 +185,7 @@ find-rest t c h f =
     (λ q e. (eqb-false (timestamp c) t q, e)) f
 
 -- it is inserted between others
-insert-rising : (t : ℕ) (p : List ℕ) → t < infinity → (b : ℕ) (h : History) → b < t → find t h ≡ none → Rising b h → Rising b (insert t p h)
+insert-rising : (t : ℕ) (p : Code) → t < infinity → (b : ℕ) (h : History) → b < t → find t h ≡ none → Rising b h → Rising b (insert t p h)
 insert-rising t p i b [] l f r = (l, i, tt)
 insert-rising t p i b (c ∷ h) l f r =
     by-test (Rising b) (ltb t (timestamp c)) (λ q. (l, i, (ltb-true t (timestamp c) q, r .1, r .2)))
@@ -192,13 +193,13 @@ insert-rising t p i b (c ∷ h) l f r =
     let above : timestamp c < t = omega (arith, ltb-false t (timestamp c) q) in
     (r .0, r .1, insert-rising t p i (timestamp c) h above (rest .1) (r .2)))
 
-pub add-sound : {n : ℕ} {c : Cabinet} (t : ℕ) (p : List ℕ) → Sound n c → length (c .changes) < n → 0 < t → t < infinity → lengthFits p ≡ true → wellFormed p ≡ true → find t (historyOf c) ≡ none → Sound n (add t p c)
-add-sound {c = c} t p s room above below sized formed free =
+pub add-sound : {n : ℕ} {c : Cabinet} (t : ℕ) (p : Code) → Sound n c → length (c .changes) < n → 0 < t → t < infinity → lengthFits (p .bytes) ≡ true → p .version ≤ 1 → wellFormed (p .bytes) ≡ true → find t (historyOf c) ≡ none → Sound n (add t p c)
+add-sound {c = c} t p s room above below sized versioned formed free =
     record {
       some-capacity = s .some-capacity;
       capacity = s .capacity;
       small = simp length-append (omega arith);
-      each = append-sound (c .changes) (change t p New false empty) (s .each) (new-sound above below sized formed);
+      each = append-sound (c .changes) (change t p New false empty) (s .each) (new-sound above below sized versioned formed);
       placed = add-placed t p c (s .placed);
       rising = rw (add-history t p c (s .placed)) (insert-rising t p below 0 (historyOf c) above free (s .rising));
       viewed = s .viewed;

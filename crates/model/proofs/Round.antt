@@ -9,6 +9,7 @@ use lib.Dec.{leb, ltb}
 use lib.IntN.{ℤ}
 use borrow.Author.Tests.{lt-ltb, le-ltb, eq-eqb, ne-eqb, le-leb, lt-leb}
 use Rattle.machine.specs.Settings.{Environment, valueIn, _orElse_, lookup, after}
+use Rattle.machine.specs.Instruction.{Code}
 use Rattle.machine.specs.Run.{run}
 use Rattle.machine.proofs.Cases.{by-test, by-test₂, impossible}
 use Rattle.model.specs.History.{infinity, Status, New, Valid, Invalid, Lists, empty, runLists, Change, change, timestamp, lists, History, afterChange, asOf, allSettings, eqZ, allHold}
@@ -84,7 +85,7 @@ live-last inSet live last (c ∷ h) x t b q r e =
 
 -- ---- the change whose turn it is stands first
 
-module _ (env : Environment) (view : List ℤ) (t : ℕ) (p : List ℕ) (s : Status) (w : Bool) (old new : Lists) (h : History) (r : Rising t h) where
+module _ (env : Environment) (view : List ℤ) (t : ℕ) (p : Code) (s : Status) (w : Bool) (old new : Lists) (h : History) (r : Rising t h) where
   install-marks : map (λ u. replace t (change t p Valid w new) (markFuture (change t p s w old ∷ h) t (changeset old new env) u)) (change t p s w old ∷ h) ≡ (change t p Valid w new ∷ markLive (differs old new env) h)
   install-marks =
       ap₂ _∷_ (rw (eq-eqb t t refl))
@@ -108,7 +109,7 @@ replace-later : (t : ℕ) (new : Change) (b : ℕ) (h : History) → t ≤ b →
 replace-later t new b [] q r = refl
 replace-later t new b (c ∷ h) q r = rw (ne-eqb (timestamp c) t (omega arith)) (ap (c ∷_) (replace-later t new (timestamp c) h (omega arith) (r .2)))
 
-rerun-first : (env : Environment) (view : List ℤ) (t : ℕ) (p : List ℕ) (old : Lists) (h : History) → Rising t h → (holds : Bool) → rerun holds (change t p Invalid false old ∷ h) view env t p old ≡ retry holds env view t p old h
+rerun-first : (env : Environment) (view : List ℤ) (t : ℕ) (p : Code) (old : Lists) (h : History) → Rising t h → (holds : Bool) → rerun holds (change t p Invalid false old ∷ h) view env t p old ≡ retry holds env view t p old h
 rerun-first env view t p old h r true = rw (eq-eqb t t refl) (ap (λ g. turned (change t p Valid false old ∷ g) view (stood t)) (replace-later t (change t p Valid false old) t h (omega arith) r))
 rerun-first env view t p old h r false = install-first env view t p Invalid false old (runLists env p) h r (ran t (run env p))
 
@@ -133,14 +134,14 @@ module _ (view : List ℤ) (upto : Environment) (c : Change) (h : History) (t : 
       (last-same (cond (writes c x) (timestamp c) 0) 0 h x t
       (by-test (λ a. leb a t ≡ leb 0 t) (writes c x) (λ e. le-leb (timestamp c) t (omega arith) ∙ sym (le-leb 0 t (omega arith))) (λ e. refl)))))
 
-  install-past : (p : List ℕ) (w : Bool) (old new : Lists) (e : Event) → install (c ∷ h) view upto t p w old new e ≡ pass c (install h view upto t p w old new e)
+  install-past : (p : Code) (w : Bool) (old new : Lists) (e : Event) → install (c ∷ h) view upto t p w old new e ≡ pass c (install h view upto t p w old new e)
   install-past p w old new e =
       let set = changeset old new upto in
       ap₂ (λ g v. turned g v e)
       (ap₂ _∷_ (mark-past (c ∷ h) t set (change t p Valid w new) c q) (ap (λ f. map f h) (fun-ext (λ u. ap (replace t (change t p Valid w new)) (mark-same set u)))))
       (view-same set (after (new .writes) upto))
 
-  rerun-past : (p : List ℕ) (old : Lists) (holds : Bool) → rerun holds (c ∷ h) view upto t p old ≡ pass c (rerun holds h view upto t p old)
+  rerun-past : (p : Code) (old : Lists) (holds : Bool) → rerun holds (c ∷ h) view upto t p old ≡ pass c (rerun holds h view upto t p old)
   rerun-past p old true = rw (ne-eqb (timestamp c) t (omega arith))
   rerun-past p old false = install-past p false old (runLists upto p) (ran t (run upto p))
 

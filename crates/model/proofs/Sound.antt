@@ -2,10 +2,11 @@
 use mathlib.Core.Path.{_≡_, refl}
 use mathlib.Core.Bool.{Bool, true, false}
 use mathlib.Core.List.{List, [], _∷_, _++_, map}
-use Prim.Native.Nat.{ℕ, zero, suc, _<_}
+use Prim.Native.Nat.{ℕ, zero, suc, _≤_, _<_}
 use native.Mathlib.Omega.{arith}
 use lib.ListN.{length, getD, set}
 use Rattle.machine.specs.Settings.{Environment, Distinct, Bounded}
+use Rattle.machine.specs.Instruction.{Code}
 use Rattle.machine.specs.Form.{lengthFits, wellFormed}
 use Rattle.model.specs.History.{infinity, Status, New, Valid, Invalid, Lists, empty, runLists, Change, change}
 use Rattle.model.specs.Figure.{mark, markUpdate}
@@ -20,24 +21,24 @@ unfolding Distinct
 empty-bounded = record { short = omega arith; distinct = tt }
 
 -- just taken in
-pub new-sound : {t : ℕ} {p : List ℕ} → 0 < t → t < infinity → lengthFits p ≡ true → wellFormed p ≡ true → ChangeSound (change t p New false empty)
-new-sound above below sized formed =
-    record { above = above; below = below; sized = sized; formed = formed; reads = empty-bounded; writes = empty-bounded; new = λ e. refl }
+pub new-sound : {t : ℕ} {p : Code} → 0 < t → t < infinity → lengthFits (p .bytes) ≡ true → p .version ≤ 1 → wellFormed (p .bytes) ≡ true → ChangeSound (change t p New false empty)
+new-sound above below sized versioned formed =
+    record { above = above; below = below; sized = sized; versioned = versioned; formed = formed; reads = empty-bounded; writes = empty-bounded; new = λ e. refl }
 
 -- another status, another flag, other lists
-altered-sound : {t : ℕ} {p : List ℕ} {s s' : Status} {w w' : Bool} {l l' : Lists} → Bounded (l' .reads) → Bounded (l' .writes) → (s' ≡ New → l' ≡ empty) → ChangeSound (change t p s w l) → ChangeSound (change t p s' w' l')
+altered-sound : {t : ℕ} {p : Code} {s s' : Status} {w w' : Bool} {l l' : Lists} → Bounded (l' .reads) → Bounded (l' .writes) → (s' ≡ New → l' ≡ empty) → ChangeSound (change t p s w l) → ChangeSound (change t p s' w' l')
 altered-sound r b n k =
-    record { above = k .above; below = k .below; sized = k .sized; formed = k .formed; reads = r; writes = b; new = n }
+    record { above = k .above; below = k .below; sized = k .sized; versioned = k .versioned; formed = k .formed; reads = r; writes = b; new = n }
 
 -- Valid with the same lists
-pub stood-sound : {t : ℕ} {p : List ℕ} {s : Status} {w : Bool} {l : Lists} → ChangeSound (change t p s w l) → ChangeSound (change t p Valid w l)
+pub stood-sound : {t : ℕ} {p : Code} {s : Status} {w : Bool} {l : Lists} → ChangeSound (change t p s w l) → ChangeSound (change t p Valid w l)
 stood-sound k = altered-sound (k .reads) (k .writes) (λ e. cc) k
 
 -- run, or cleared
-pub ran-sound : (env : Environment) {t : ℕ} {p : List ℕ} {s : Status} {w : Bool} {l : Lists} → ChangeSound (change t p s w l) → ChangeSound (change t p Valid w (runLists env p))
+pub ran-sound : (env : Environment) {t : ℕ} {p : Code} {s : Status} {w : Bool} {l : Lists} → ChangeSound (change t p s w l) → ChangeSound (change t p Valid w (runLists env p))
 ran-sound env {p = p} k = let r = runLists-bounded env p (k .sized) in altered-sound (r .0) (r .1) (λ e. cc) k
 
-pub cleared-sound : {t : ℕ} {p : List ℕ} {s : Status} {w : Bool} {l : Lists} → ChangeSound (change t p s w l) → ChangeSound (change t p Valid w empty)
+pub cleared-sound : {t : ℕ} {p : Code} {s : Status} {w : Bool} {l : Lists} → ChangeSound (change t p s w l) → ChangeSound (change t p Valid w empty)
 cleared-sound k = altered-sound empty-bounded empty-bounded (λ e. cc) k
 
 pub marked-sound : (b : Bool) (u : Change) → ChangeSound u → ChangeSound (markUpdate b u)

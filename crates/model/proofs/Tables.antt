@@ -9,6 +9,7 @@ use lib.Seq.{take-at}
 use Rattle.machine.specs.Settings.{Entry, entries}
 pub use Rattle.machine.proofs.Form.{length-short}
 use Rattle.machine.proofs.Form.{length-eights}
+use Rattle.machine.specs.Instruction.{code}
 use Rattle.model.specs.History.{Status, New, Valid, Invalid, Change, change, timestamp, program, status, withdrawn, lists}
 use Rattle.model.specs.Cabinet.{Cabinet, blank}
 use Rattle.model.specs.Tables.{statusNumber, statusOf, flagNumber, flagOf, column, blocks, settingsOf, valuesOf, encode, heldCount, slots, programAt, readsAt, writesAt, changeAt, decode}
@@ -28,8 +29,8 @@ fits-map : {A B : Type 0} (width : ℕ) (g : A → B) (f : Change → List A) (c
 fits-map width g f [] k = tt
 fits-map width g f (c ∷ changes) k = (rw length-map (k .0), fits-map width g f changes (k .1))
 
-pub programs-fit : (changes : List Change) → AllSound changes → Fits 256 program changes
-programs-fit changes a = fits-of 256 program changes (λ c s. length-short (program c) (s .sized)) a
+pub programs-fit : (changes : List Change) → AllSound changes → Fits 256 (λ d. program d .bytes) changes
+programs-fit changes a = fits-of 256 (λ d. program d .bytes) changes (λ c s. length-short (program c .bytes) (s .sized)) a
 
 pub reads-fit : (changes : List Change) → AllSound changes → Fits 32 (λ d. lists d .reads) changes
 reads-fit changes a = fits-of 32 (λ d. lists d .reads) changes (λ c s. s .reads .short) a
@@ -85,9 +86,9 @@ module _ (n : ℕ) (c : Cabinet) (i : ℕ) where
   unfolding encode
   withdrawn-at = column-get n 0 (λ d. flagNumber (withdrawn d)) (c .changes) i refl
 
-  pub length-at : getD (encode n c .lengths) i 0 ≡ length (program (getD (c .changes) i blank)) / 8
+  pub length-at : getD (encode n c .lengths) i 0 ≡ length (program (getD (c .changes) i blank) .bytes) / 8
   unfolding encode
-  length-at = column-get n 0 (λ d. length (program d) / 8) (c .changes) i refl
+  length-at = column-get n 0 (λ d. length (program d .bytes) / 8) (c .changes) i refl
 
   pub reads-at : getD (encode n c .reads) i 0 ≡ length (lists (getD (c .changes) i blank) .reads)
   unfolding encode
@@ -96,6 +97,10 @@ module _ (n : ℕ) (c : Cabinet) (i : ℕ) where
   pub writes-at : getD (encode n c .writes) i 0 ≡ length (lists (getD (c .changes) i blank) .writes)
   unfolding encode
   writes-at = column-get n 0 (λ d. length (lists d .writes)) (c .changes) i refl
+
+  pub version-at : getD (encode n c .versions) i 0 ≡ program (getD (c .changes) i blank) .version
+  unfolding encode
+  version-at = column-get n 0 (λ d. program d .version) (c .changes) i refl
 
 pub status-back : (s : Status) → statusOf (statusNumber s) ≡ s
 status-back New = refl
@@ -111,13 +116,13 @@ fields (change t p s w l) = refl
 
 module _ (n : ℕ) (c : Cabinet) (s : Sound n c) (i : ℕ) (h : i < length (c .changes)) where
   -- eight times the stored length is the program's
-  pub length-back : 8 * getD (encode n c .lengths) i 0 ≡ length (program (getD (c .changes) i blank))
-  length-back = rw (length-at n c i) (length-eights (program (getD (c .changes) i blank)) (sound-at (c .changes) i (s .each) h .sized))
+  pub length-back : 8 * getD (encode n c .lengths) i 0 ≡ length (program (getD (c .changes) i blank) .bytes)
+  length-back = rw (length-at n c i) (length-eights (program (getD (c .changes) i blank) .bytes) (sound-at (c .changes) i (s .each) h .sized))
 
   pub program-back : programAt (encode n c) i ≡ program (getD (c .changes) i blank)
   unfolding encode
   program-back =
-      rw length-back (blocks-slots n 256 0 program (c .changes) i (programs-fit (c .changes) (s .each)) h)
+      ap₂ code (version-at n c i) (rw length-back (blocks-slots n 256 0 (λ d. program d .bytes) (c .changes) i (programs-fit (c .changes) (s .each)) h))
 
   pub reads-back : readsAt (encode n c) i ≡ lists (getD (c .changes) i blank) .reads
   unfolding encode

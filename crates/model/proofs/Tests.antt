@@ -70,6 +70,7 @@ pub record Lengths (n : ℕ) (T : Tables) : Type 0 where
   pub targets : length (T .targets) ≡ 32 * n
   pub written : length (T .written) ≡ 32 * n
   pub view : length (T .view) ≡ settingCount
+  pub versions : length (T .versions) ≡ n
 
 pub lengths-of : (n : ℕ) (T : Tables) → lengthsFit n T ≡ true → Lengths n T
 unfolding lengthsFit
@@ -92,12 +93,13 @@ lengths-of n T e =
       targets = eqb-true _ _ (test 13);
       written = eqb-true _ _ (test 14);
       view = eqb-true _ _ (test 15);
+      versions = eqb-true _ _ (test 16);
     }
 
 pub lengths-fit : (n : ℕ) (T : Tables) → Lengths n T → lengthsFit n T ≡ true
 unfolding lengthsFit
 lengths-fit n T g =
-    rw (le-leb _ _ (g .some-capacity), le-leb _ _ (g .capacity), eq-eqb _ _ (g .held), eq-eqb _ _ (g .timestamps), eq-eqb _ _ (g .order), eq-eqb _ _ (g .status), eq-eqb _ _ (g .withdrawn), eq-eqb _ _ (g .lengths), eq-eqb _ _ (g .programs), eq-eqb _ _ (g .reads), eq-eqb _ _ (g .writes), eq-eqb _ _ (g .sources), eq-eqb _ _ (g .seen), eq-eqb _ _ (g .targets), eq-eqb _ _ (g .written), eq-eqb _ _ (g .view))
+    rw (le-leb _ _ (g .some-capacity), le-leb _ _ (g .capacity), eq-eqb _ _ (g .held), eq-eqb _ _ (g .timestamps), eq-eqb _ _ (g .order), eq-eqb _ _ (g .status), eq-eqb _ _ (g .withdrawn), eq-eqb _ _ (g .lengths), eq-eqb _ _ (g .programs), eq-eqb _ _ (g .reads), eq-eqb _ _ (g .writes), eq-eqb _ _ (g .sources), eq-eqb _ _ (g .seen), eq-eqb _ _ (g .targets), eq-eqb _ _ (g .written), eq-eqb _ _ (g .view), eq-eqb _ _ (g .versions))
 
 -- ---- form, by place
 
@@ -108,8 +110,9 @@ pub record Head (T : Tables) (i : ℕ) : Type 0 where
   pub status : getD (T .status) i 0 ≤ 2
   pub withdrawn : getD (T .withdrawn) i 0 ≤ 1
   pub new : getD (T .status) i 0 ≡ 0 → (getD (T .reads) i 0 ≡ 0) × (getD (T .writes) i 0 ≡ 0)
+  pub version : getD (T .versions) i 0 ≤ 1
 
-head-of : (T : Tables) (i : ℕ) → headFits (T .timestamps) (T .status) (T .withdrawn) (T .reads) (T .writes) i ≡ true → Head T i
+head-of : (T : Tables) (i : ℕ) → headFits (T .timestamps) (T .status) (T .withdrawn) (T .reads) (T .writes) (T .versions) i ≡ true → Head T i
 head-of T i e =
     let t = getD (T .timestamps) i 0 in
     let s = getD (T .status) i 0 in
@@ -117,6 +120,7 @@ head-of T i e =
     let e0 = both (isTimestamp t) e in
     let e1 = both (leb s 2) (e0 .1) in
     let e2 = both (leb (getD (T .withdrawn) i 0) 1) (e1 .1) in
+    let e3 = both (not (eqb s 0) || (eqb r 0 && eqb (getD (T .writes) i 0) 0)) (e2 .1) in
     record {
       above = ltb-true _ _ (both _ (e0 .0) .0);
       below = ltb-true _ _ (both (ltb 0 t) (e0 .0) .1);
@@ -124,13 +128,14 @@ head-of T i e =
       withdrawn = leb-true _ _ (e2 .0);
       new =
           λ q.
-          let none = both (eqb r 0) (either (not (eqb s 0)) (both _ (e2 .1) .0) (ap not (eq-eqb s 0 q))) in
+          let none = both (eqb r 0) (either (not (eqb s 0)) (e3 .0) (ap not (eq-eqb s 0 q))) in
           (eqb-true _ _ (none .0), eqb-true _ _ (none .1));
+      version = leb-true _ _ (both _ (e3 .1) .0);
     }
 
-head-fits : (T : Tables) (i : ℕ) → Head T i → headFits (T .timestamps) (T .status) (T .withdrawn) (T .reads) (T .writes) i ≡ true
+head-fits : (T : Tables) (i : ℕ) → Head T i → headFits (T .timestamps) (T .status) (T .withdrawn) (T .reads) (T .writes) (T .versions) i ≡ true
 head-fits T i h =
-    rw (lt-ltb _ _ (h .above), lt-ltb _ _ (h .below), le-leb _ _ (h .status), le-leb _ _ (h .withdrawn), go (eqb (getD (T .status) i 0) 0) refl)
+    rw (lt-ltb _ _ (h .above), lt-ltb _ _ (h .below), le-leb _ _ (h .status), le-leb _ _ (h .withdrawn), go (eqb (getD (T .status) i 0) 0) refl, le-leb _ _ (h .version))
   where
     go : (b : Bool) → eqb (getD (T .status) i 0) 0 ≡ b → (not b || (eqb (getD (T .reads) i 0) 0 && eqb (getD (T .writes) i 0) 0)) ≡ true
     go false q = refl
@@ -139,13 +144,13 @@ head-fits T i h =
 -- what programFits tests
 pub record Programmed (T : Tables) (i : ℕ) : Type 0 where
   pub short : getD (T .lengths) i 0 ≤ 32
-  pub formed : wellFormed (programAt T i) ≡ true
+  pub formed : wellFormed (programAt T i .bytes) ≡ true
   pub rest : allZero (restOf 256 i (8 * getD (T .lengths) i 0) (T .programs)) ≡ true
 
 program-of : (T : Tables) (i : ℕ) → programFits (T .lengths) (T .programs) i ≡ true → Programmed T i
 program-of T i e =
     let e0 = both (leb (getD (T .lengths) i 0) 32) e in
-    let e1 = both (wellFormed (programAt T i)) (e0 .1) in
+    let e1 = both (wellFormed (programAt T i .bytes)) (e0 .1) in
     record { short = leb-true _ _ (e0 .0); formed = e1 .0; rest = both _ (e1 .1) .0 }
 
 program-fits : (T : Tables) (i : ℕ) → Programmed T i → programFits (T .lengths) (T .programs) i ≡ true
@@ -201,14 +206,15 @@ pub record Unused (T : Tables) (k : ℕ) : Type 0 where
   pub seen : allZeroZ (drop (32 * k) (T .seen)) ≡ true
   pub targets : allZero (drop (32 * k) (T .targets)) ≡ true
   pub written : allZeroZ (drop (32 * k) (T .written)) ≡ true
+  pub versions : allZero (drop k (T .versions)) ≡ true
 
 unused-of : (T : Tables) (k : ℕ) → unusedFits T k ≡ true → Unused T k
 unused-of T k e =
     let test : (j : ℕ) → getD (unusedTests T k) j true ≡ true = λ j. every-at (unusedTests T k) j e in
-    record { timestamps = test 0; order = test 1; status = test 2; withdrawn = test 3; lengths = test 4; programs = test 5; reads = test 6; writes = test 7; sources = test 8; seen = test 9; targets = test 10; written = test 11 }
+    record { timestamps = test 0; order = test 1; status = test 2; withdrawn = test 3; lengths = test 4; programs = test 5; reads = test 6; writes = test 7; sources = test 8; seen = test 9; targets = test 10; written = test 11; versions = test 12 }
 
 unused-fits : (T : Tables) (k : ℕ) → Unused T k → unusedFits T k ≡ true
-unused-fits T k u = rw (u .timestamps, u .order, u .status, u .withdrawn, u .lengths, u .programs, u .reads, u .writes, u .sources, u .seen, u .targets, u .written)
+unused-fits T k u = rw (u .timestamps, u .order, u .status, u .withdrawn, u .lengths, u .programs, u .reads, u .writes, u .sources, u .seen, u .targets, u .written, u .versions)
 
 -- ---- form
 

@@ -4,19 +4,20 @@ use mathlib.Core.List.{List, [], _∷_, _++_, map}
 use Prim.Native.Nat.{ℕ}
 use lib.Dec.{eqb, ltb}
 use Rattle.machine.specs.Settings.{Environment, after}
+use Rattle.machine.specs.Instruction.{Code}
 use Rattle.model.specs.History.{Lists, empty, runLists, Change, change, History}
 use Rattle.model.specs.Package.{Item, taking, withdrawing}
 
 -- a change in the book: timestamp, program, withdrawn or not
 pub data Booked : Type 0 where
-  booked : ℕ → List ℕ → Bool → Booked
+  booked : ℕ → Code → Bool → Booked
 
 -- by rising timestamp
 abbrev pub Book : Type 0
 Book = List Booked
 
 -- enters its timestamp and program, not withdrawn
-abbrev pub enter : ℕ → List ℕ → Book → Book
+abbrev pub enter : ℕ → Code → Book → Book
 enter t p [] = booked t p false ∷ []
 enter t p (booked u q w ∷ book) = cond (ltb t u) (booked t p false ∷ booked u q w ∷ book) (booked u q w ∷ enter t p book)
 
@@ -34,7 +35,7 @@ bookOf h = map bookedAs h
 
 -- ---- the fresh run
 
--- a withdrawn change is passed over, its lists are empty; any other is run on the settings as they then stand
+-- a withdrawn change is passed over, its lists are empty; any other is run on the settings as they then stand, by its own version (document 02, R-6: "The drained state is that of running each change by its own version")
 abbrev pub freshLists : Booked → Environment → Lists
 freshLists (booked t p true) env = empty
 freshLists (booked t p false) env = runLists env p

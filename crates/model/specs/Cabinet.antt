@@ -8,6 +8,7 @@ use Prim.Native.Nat.{ℕ}
 use lib.Dec.{eqb, ltb}
 use lib.IntN.{ℤ}
 use lib.ListN.{length, getD, set}
+use Rattle.machine.specs.Instruction.{Code, code}
 use Rattle.model.specs.History.{start, Status, New, Valid, Invalid, empty, Change, change, timestamp, History, allSettings}
 
 -- changes in order of arrival, the places by rising timestamp, the current settings
@@ -27,7 +28,7 @@ emptyCabinet = record { changes = []; order = []; view = allSettings start }
 
 -- what stands at a place that is not held
 abbrev pub blank : Change
-blank = change 0 [] New false empty
+blank = change 0 (code 0 []) New false empty
 
 -- the changes at some places, in the places' order
 abbrev pub changesAt : List Change → List ℕ → List Change
@@ -60,7 +61,7 @@ enterPlace changes t place (i ∷ order) =
     cond (ltb t (timestamp (getD changes i blank))) (place ∷ i ∷ order) (i ∷ enterPlace changes t place order)
 
 -- take in: the next place, New, not withdrawn, lists empty
-abbrev pub add : ℕ → List ℕ → Cabinet → Cabinet
+abbrev pub add : ℕ → Code → Cabinet → Cabinet
 add t p c =
     record {
       changes = c .changes ++ (change t p New false empty ∷ []);

@@ -8,6 +8,7 @@ use lib.IntN.{ℤ, pos}
 use lib.ListN.{length, drop}
 use Rattle.start_values.specs.StartValues.{startTable}
 use Rattle.machine.specs.Settings.{settingCount, valueIn}
+use Rattle.machine.specs.Instruction.{Code}
 use Rattle.machine.specs.Run.{Ending, completed, faulted}
 use Rattle.model.specs.declared.Answer.{Answer}
 use Rattle.model.specs.declared.Answer.the-variants as answer
@@ -24,7 +25,7 @@ use Rattle.model.specs.Figure.{Event, ran, stood, cleared, Step, idle, t
 use Rattle.model.specs.Drain.{Drain, drainHistory, totalCount, totals}
 use Rattle.model.specs.Cabinet.{Cabinet, emptyCabinet, historyOf, withHistory, find, add, remove}
 use Rattle.model.specs.Tables.{Tables, statusNumber, flagNumber, encode, decode}
-use Rattle.model.specs.Refusals.{test, firstOf, wrongLengths, wrongLength, notInForm, faultOf, noTimestamp, noTime, noSetting, wrongProgramLength, malformed, isHeld, heldOtherwise, full, notHeld, withdrawnAlready, noRoom}
+use Rattle.model.specs.Refusals.{test, firstOf, wrongLengths, wrongLength, notInForm, faultOf, noTimestamp, noTime, noSetting, wrongProgramLength, noVersion, malformed, isHeld, heldOtherwise, full, notHeld, withdrawnAlready, noRoom}
 use Rattle.model.specs.Package.{Item, taking, withdrawing, layoutFits, itemsOf, packageOf}
 use Rattle.model.specs.Book.{bookOf, freshEnd, bookedItems}
 
@@ -105,10 +106,10 @@ setUp n T =
 -- the refusal of an item on tables in form
 abbrev pub itemRefusal : ℕ → Cabinet → Item → ℕ
 itemRefusal n c (taking t p) =
-    firstOf (noTimestamp t ∷ wrongProgramLength p ∷ malformed p ∷ heldOtherwise c t p ∷ full n c t ∷ [])
+    firstOf (noTimestamp t ∷ wrongProgramLength p ∷ noVersion p ∷ malformed p ∷ heldOtherwise c t p ∷ full n c t ∷ [])
 itemRefusal n c (withdrawing t) = firstOf (noTimestamp t ∷ notHeld c t ∷ withdrawnAlready c t ∷ [])
 
--- its answer, where it is not refused: the same timestamp with the same program bytes is held already
+-- its answer, where it is not refused: the same timestamp with the same program is held already
 abbrev pub itemAccepted : Cabinet → Item → Answer
 itemAccepted c (taking t p) = cond (isHeld (find t (historyOf c))) answer.Held answer.Done
 itemAccepted c (withdrawing t) = answer.Done
@@ -133,7 +134,7 @@ itemCall n T i =
     unless (faultOf n T) answer.Refused T
     (record { answer = itemAnswer n c i; tables = ifDone (itemAnswer n c i) (encode n (itemDone c i)) T })
 
-unfoldable pub takeIn : ℕ → Tables → ℕ → List ℕ → Reply Answer
+unfoldable pub takeIn : ℕ → Tables → ℕ → Code → Reply Answer
 takeIn n T t p = itemCall n T (taking t p)
 
 unfoldable pub withdraw : ℕ → Tables → ℕ → Reply Answer

@@ -1,4 +1,4 @@
--- Document 01's cases P1 to P11 and its package ("Cases to know"), with the start values of document 02 (R-1), carried out by the definitions of the calls; what package out writes then (R-3); and totals of two consoles (R-5). The table is proved by computation.
+-- Document 01's cases P1 to P11 and its package ("Cases to know"), with the start values of document 02 (R-1), carried out by the definitions of the calls; what package out writes then (R-3); totals of two consoles (R-5); and programs of version 1 (R-6). The table is proved by computation.
 use mathlib.Core.Path.{_≡_, refl}
 use mathlib.Core.Bool.{Bool, true, false, cond, _&&_}
 use mathlib.Core.List.{List, [], _∷_, _++_, map}
@@ -9,13 +9,13 @@ use lib.IntN.{ℤ, pos, negsuc}
 use lib.ListN.{replicate}
 use Rattle.words.specs.Words.{patternOf, numberOf, wrap, floorDiv, onesOf}
 use Rattle.start_values.specs.StartValues.{startTable}
-use Rattle.machine.specs.Settings.{settingCount, named, entries, lookup}
-use Rattle.machine.specs.Instruction.{Program, instructionAt, instructionsFrom, programOf}
+use Rattle.machine.specs.Settings.{settingCount, named, firstValue, replaceFirst, entries, lookup}
+use Rattle.machine.specs.Instruction.{Program, instructionAt, instructionsFrom, programOf, code}
 use Rattle.machine.specs.Form.{isWellFormed, allBelow, lengthFits, wellFormed}
 use Rattle.machine.specs.Run.{effect, shiftRight, enter, load, store, perform, step, runFrom, runProgram, run}
 use Rattle.machine.specs.Examples.{instruction, constant, reading, writing}
 use Rattle.model.specs.declared.Answer.{Answer}
-use Rattle.model.specs.declared.Answer.the-variants.{Done}
+use Rattle.model.specs.declared.Answer.the-variants.{Done, Held, Refused}
 use Rattle.model.specs.declared.Turned.{Turned}
 use Rattle.model.specs.declared.Turned.the-variants.{Ran, Stood, Cleared, Faulted}
 use Rattle.model.specs.declared.Value.{Value}
@@ -70,18 +70,19 @@ record Drained : Type 0 where
 
 -- a step of a script: every taking in and withdrawal is to be answered done; the entries of a package, a turn and a drain are to be answered as listed behind them
 data Action : Type 0 where
-  takesIn : ℕ → Program → Action
+  takesInBy : ℕ → ℕ → Program → Action
   takesInPackage : List ℕ → List ℕ → Action
   withdraws : ℕ → Action
   turns : Turned → Action
   drains : List Turned → Drained → Action
 
--- what a call answers after the last drain: the current value of s, the value as of t of s, the standing of t, package out into so many zeros
+-- what a call answers after the last drain: the current value of s, the value as of t of s, the standing of t, package out into so many zeros, a program of a version taken in with the timestamp t
 data Fact : Type 0 where
   current : ℕ → Value → Fact
   asOf : ℕ → ℕ → Value → Fact
   stands : ℕ → Standing → Fact
   packs : ℕ → PackedReply → Fact
+  takes : ℕ → ℕ → Program → Answer → Fact
 
 -- the steps before the last drain, the turns of that drain, its answer, and what holds after it
 record Case : Type 0 where
@@ -89,6 +90,10 @@ record Case : Type 0 where
   turned : List Turned
   answer : Drained
   facts : List Fact
+
+-- a program of version 0 taken in with a timestamp
+abbrev takesIn : ℕ → Program → Action
+takesIn = takesInBy 0
 
 -- done, with these totals and else zeros
 abbrev counted : List (ℕ × ℕ) → Drained
@@ -98,9 +103,12 @@ counted placed = record { answer = Done; placed = placed }
 abbrev drainsRunning : List ℕ → Action
 drainsRunning timestamps = drains (map Ran timestamps) (counted (map (λ t. (4 * t, 1)) timestamps))
 
--- an entry of a package's contents, stamped below 256
+-- an entry of a package's contents, stamped below 256, of a version and of version 0
+abbrev listedBy : ℕ → ℕ → ℕ → ℕ → List ℕ
+listedBy version t kind count = t ∷ (replicate 7 0 ++ (kind ∷ count ∷ version ∷ 0 ∷ []))
+
 abbrev listed : ℕ → ℕ → ℕ → List ℕ
-listed t kind count = t ∷ (replicate 7 0 ++ (kind ∷ count ∷ 0 ∷ 0 ∷ []))
+listed = listedBy 0
 
 -- nothing held: no turns
 P1 : Case
@@ -264,8 +272,55 @@ two-consoles =
       facts = [];
     }
 
+-- document 02, R-6: 20 sets 36 to 400, adds 1 to it and copies it to 50. In version 1 it reads back 400 and 401, which enter no read list, and 36 stands in its write list once; so 10, which sets 36 too, does not make it run again. With version 0 it is another program; there is no version 2, which is refused before a malformed instruction, and after a wrong length.
+-- Written out, its entry has its version
+abbrev readsBack : Program
+readsBack = sets 36 (pos 400) ++ adds 36 (pos 1) ++ copies 36 50
+
+own-writes : Case
+own-writes =
+    record {
+      script = takesInBy 1 20 readsBack ∷ drainsRunning (20 ∷ []) ∷ takesIn 10 (sets 36 (pos 7)) ∷ [];
+      turned = Ran 10 ∷ [];
+      answer = counted ((40, 1) ∷ []);
+      facts =
+          current 36 (Is (pos 401))
+          ∷ current 50 (Is (pos 401))
+          ∷ asOf 20 36 (Is (pos 7))
+          ∷ takes 1 20 readsBack Held
+          ∷ takes 0 20 readsBack (Refused 8)
+          ∷ takes 2 20 readsBack (Refused 13)
+          ∷ takes 2 20 (instruction 18 0 0 0 (pos 0) ∷ []) (Refused 13)
+          ∷ takes 2 20 (replicate 33 (instruction 0 0 0 0 (pos 0))) (Refused 6)
+          ∷ packs 106 (packedReply (packed-answer.Length 106) (2 ∷ 0 ∷ (listed 10 0 2 ++ listedBy 1 20 0 8 ++ bytesOf (sets 36 (pos 7) ++ readsBack))))
+          ∷ [];
+    }
+
+-- the same program in version 0 faults at place 2, where it reads what it has written
+no-own-writes : Case
+no-own-writes =
+    record {
+      script = takesIn 20 readsBack ∷ [];
+      turned = Faulted 20 2 ∷ [];
+      answer = counted ((83, 1) ∷ []);
+      facts = current 36 (Is (pos 0)) ∷ [];
+    }
+
+-- a package with P9's program in version 1: 10 sets 34 to 7, then to 5, and ran
+own-writes-package : Case
+own-writes-package =
+    record {
+      script =
+          takesInPackage (2 ∷ 0 ∷ (listedBy 1 10 0 4 ++ listed 15 1 0 ++ bytesOf (sets 34 (pos 7) ++ sets 34 (pos 5)))) (0 ∷ 10 ∷ [])
+          ∷ [];
+      turned = Ran 10 ∷ [];
+      answer = counted ((40, 1) ∷ []);
+      facts = current 34 (Is (pos 5)) ∷ [];
+    }
+
 cases : List Case
-cases = P1 ∷ P2 ∷ P3 ∷ P4 ∷ P5 ∷ P6 ∷ P7 ∷ P8 ∷ P9 ∷ P10 ∷ P11-before ∷ P11-after ∷ sample-package ∷ two-consoles ∷ []
+cases =
+    P1 ∷ P2 ∷ P3 ∷ P4 ∷ P5 ∷ P6 ∷ P7 ∷ P8 ∷ P9 ∷ P10 ∷ P11-before ∷ P11-after ∷ sample-package ∷ two-consoles ∷ own-writes ∷ no-own-writes ∷ own-writes-package ∷ []
 
 -- ---- carrying it out
 
@@ -290,6 +345,7 @@ blank =
       targets = replicate (32 * capacity) 0;
       written = replicate (32 * capacity) (pos 0);
       view = replicate settingCount (pos 0);
+      versions = replicate capacity 0;
     }
 
 -- the tables after some calls, whether the set up and every taking in, package and withdrawal among them was answered as it is to be, and the turns and drains among them as they were answered
@@ -315,7 +371,7 @@ abbrev follow : Progress → Reply Answer → Progress
 follow s r = record { tables = r .tables; done = ifDone (r .answer) (s .done) false; answered = s .answered }
 
 abbrev carryOut : Action → Progress → Progress
-carryOut (takesIn t p) s = follow s (takeIn capacity (s .tables) t (bytesOf p))
+carryOut (takesInBy version t p) s = follow s (takeIn capacity (s .tables) t (code version (bytesOf p)))
 carryOut (takesInPackage bytes answers) s =
     let r = takeInPackage capacity (s .tables) bytes (replicate 512 0) in
     record {
@@ -342,7 +398,7 @@ begun = follow (record { tables = blank; done = true; answered = [] }) (setUp ca
 -- the turns and drains of a script, as they are to be answered
 abbrev toAnswer : List Action → List Action
 toAnswer [] = []
-toAnswer (takesIn t p ∷ script) = toAnswer script
+toAnswer (takesInBy version t p ∷ script) = toAnswer script
 toAnswer (takesInPackage bytes answers ∷ script) = toAnswer script
 toAnswer (withdraws t ∷ script) = toAnswer script
 toAnswer (turns a ∷ script) = turns a ∷ toAnswer script
@@ -354,6 +410,7 @@ asked T (current s v) = current s (currentValue capacity T s)
 asked T (asOf t s v) = asOf t s (valueAsOf capacity T t s)
 asked T (stands t v) = stands t (standing capacity T t)
 asked T (packs k r) = packs k (packageOut capacity T (replicate k 0))
+asked T (takes version t p a) = takes version t p (takeIn capacity T t (code version (bytesOf p)) .answer)
 
 -- what carrying out a case gives: whether the script's items were answered as they are to be, its turns and drains as answered, the turns of the last drain, its answer, and the facts
 record Outcome : Type 0 where
@@ -379,5 +436,5 @@ expected : Case → Outcome
 expected c = record { done = true; answered = toAnswer (c .script); turned = c .turned; answer = c .answer; facts = c .facts }
 
 cases-hold : map outcome cases ≡ map expected cases
-unfolding cases P1 P2 P3 P4 P5 P6 P7 P8 P9 P10 P11-before P11-after sample-package two-consoles outcome expected setUp takeIn withdraw takeInPackage turn drain drainWithTotals totals currentValue valueAsOf standing packageOut packageOf itemAnswer layoutFits itemsOf numberAt countBefore encode decode lengthsFit inForm drainHistory drainFor round start startTable runLists run runProgram runFrom step perform effect load store enter named lookup entries lengthFits wellFormed allBelow isWellFormed programOf instructionsFrom instructionAt shiftRight patternOf numberOf wrap floorDiv onesOf onesIn
+unfolding cases P1 P2 P3 P4 P5 P6 P7 P8 P9 P10 P11-before P11-after sample-package two-consoles own-writes no-own-writes own-writes-package outcome expected setUp takeIn withdraw takeInPackage turn drain drainWithTotals totals currentValue valueAsOf standing packageOut packageOf itemAnswer layoutFits itemsOf numberAt countBefore encode decode lengthsFit inForm drainHistory drainFor round start startTable runLists run runProgram runFrom step perform effect load store enter named firstValue replaceFirst lookup entries lengthFits wellFormed allBelow isWellFormed programOf instructionsFrom instructionAt shiftRight patternOf numberOf wrap floorDiv onesOf onesIn
 cases-hold = refl

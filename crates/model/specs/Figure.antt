@@ -6,6 +6,7 @@ use Prim.Native.Nat.{ℕ}
 use lib.Dec.{eqb, ltb, leb}
 use lib.IntN.{ℤ}
 use Rattle.machine.specs.Settings.{Environment, valueIn, Entry, isSome, lookup, after}
+use Rattle.machine.specs.Instruction.{Code}
 use Rattle.machine.specs.Run.{Outcome, run}
 use Rattle.model.specs.History.{infinity, Status, New, Valid, Invalid, Lists, empty, runLists, Change, change, timestamp, lists, History, asOf, allSettings, eqZ, allHold}
 
@@ -101,14 +102,14 @@ abbrev pub replace : ℕ → Change → Change → Change
 replace t new u = cond (eqb (timestamp u) t) new u
 
 -- what follows the determination of newrset and newwset: marking, the view, then Readset(T), Writeset(T) replaced and T marked Valid
-abbrev pub install : History → List ℤ → Environment → ℕ → List ℕ → Bool → Lists → Lists → Event → Step
+abbrev pub install : History → List ℤ → Environment → ℕ → Code → Bool → Lists → Lists → Event → Step
 install h view upto t p w old new event =
     turned (map (λ u. replace t (change t p Valid w new) (markFuture h t (changeset old new upto) u)) h)
     (updateView h t (changeset old new upto) (after (new .writes) upto) view)
     event
 
 -- document 01's additions: a withdrawn change is cleared; an Invalid one whose seen values all hold stood; any other is executed
-abbrev pub rerun : Bool → History → List ℤ → Environment → ℕ → List ℕ → Lists → Step
+abbrev pub rerun : Bool → History → List ℤ → Environment → ℕ → Code → Lists → Step
 rerun true h view upto t p old = turned (map (replace t (change t p Valid false old)) h) view (stood t)
 rerun false h view upto t p old = install h view upto t p false old (runLists upto p) (ran t (run upto p))
 

@@ -1,4 +1,4 @@
--- Lengths of the tables, and when tables are in form (document 01, "Tables", refusals 1 and 2).
+-- Lengths of the tables, and when tables are in form (document 01, "Tables", refusals 1 and 2; document 02, R-6).
 use mathlib.Core.Path.{_≡_}
 use mathlib.Core.Bool.{Bool, true, false, not, _&&_, _||_}
 use mathlib.Core.List.{List, [], _∷_}
@@ -38,6 +38,7 @@ lengthTests n T =
     ∷ eqb (length (T .targets)) (32 * n)
     ∷ eqb (length (T .written)) (32 * n)
     ∷ eqb (length (T .view)) settingCount
+    ∷ eqb (length (T .versions)) n
     ∷ []
 
 -- not refusal 1
@@ -59,14 +60,15 @@ allZeroZ (x ∷ l) = isZero x && allZeroZ l
 abbrev pub restOf : {A : Type 0} → ℕ → ℕ → ℕ → List A → List A
 restOf width place count l = take (width - count) (drop (width * place + count) l)
 
--- the timestamp is valid; status is 0 New, 1 Valid or 2 Invalid; withdrawn is 0 or 1; a New change's lists are empty
-abbrev pub headFits : List ℕ → List ℕ → List ℕ → List ℕ → List ℕ → ℕ → Bool
-headFits timestamps status withdrawn reads writes i =
+-- the timestamp is valid; status is 0 New, 1 Valid or 2 Invalid; withdrawn is 0 or 1; a New change's lists are empty; the version is 0 or 1
+abbrev pub headFits : List ℕ → List ℕ → List ℕ → List ℕ → List ℕ → List ℕ → ℕ → Bool
+headFits timestamps status withdrawn reads writes versions i =
     every
     (isTimestamp (getD timestamps i 0)
     ∷ leb (getD status i 0) 2
     ∷ leb (getD withdrawn i 0) 1
     ∷ (not (eqb (getD status i 0) 0) || (eqb (getD reads i 0) 0 && eqb (getD writes i 0) 0))
+    ∷ leb (getD versions i 0) 1
     ∷ [])
 
 -- at most 32 instructions, each well formed, and zeros behind them
@@ -120,6 +122,7 @@ unusedTests T n =
     ∷ allZeroZ (drop (32 * n) (T .seen))
     ∷ allZero (drop (32 * n) (T .targets))
     ∷ allZeroZ (drop (32 * n) (T .written))
+    ∷ allZero (drop n (T .versions))
     ∷ []
 
 abbrev pub unusedFits : Tables → ℕ → Bool
@@ -130,7 +133,7 @@ abbrev pub formTests : ℕ → Tables → List Bool
 formTests n T =
     let k = heldCount T in
     leb k n
-    ∷ allBelow k (headFits (T .timestamps) (T .status) (T .withdrawn) (T .reads) (T .writes))
+    ∷ allBelow k (headFits (T .timestamps) (T .status) (T .withdrawn) (T .reads) (T .writes) (T .versions))
     ∷ allBelow k (orderFits (T .order) (T .timestamps) k)
     ∷ allBelow k (programFits (T .lengths) (T .programs))
     ∷ allBelow k (listFits (T .reads) (T .sources) (T .seen))

@@ -6,6 +6,7 @@ use lib.Dec.{eqb, ltb}
 use lib.IntN.{ℤ, pos, negsuc}
 use Rattle.start_values.specs.StartValues.{startTable}
 use Rattle.machine.specs.Settings.{settingCount, Environment, valueIn, Entry, after}
+use Rattle.machine.specs.Instruction.{Code}
 use Rattle.machine.specs.Run.{run}
 
 -- 2^64 − 1
@@ -32,17 +33,17 @@ abbrev pub empty : Lists
 empty = record { reads = []; writes = [] }
 
 -- the lists that a program's run leaves
-unfoldable pub runLists : Environment → List ℕ → Lists
+unfoldable pub runLists : Environment → Code → Lists
 runLists env p = record { reads = run env p .reads; writes = run env p .writes }
 
 -- a held change: timestamp, program, status, withdrawn or not, and the lists of its last run
 pub data Change : Type 0 where
-  change : ℕ → List ℕ → Status → Bool → Lists → Change
+  change : ℕ → Code → Status → Bool → Lists → Change
 
 abbrev pub timestamp : Change → ℕ
 timestamp (change t p s w l) = t
 
-abbrev pub program : Change → List ℕ
+abbrev pub program : Change → Code
 program (change t p s w l) = p
 
 abbrev pub status : Change → Status

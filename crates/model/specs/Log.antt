@@ -3,6 +3,7 @@ use mathlib.Core.Bool.{cond}
 use mathlib.Core.List.{List, [], _∷_, _++_, map}
 use Prim.Native.Nat.{ℕ}
 use lib.Dec.{eqb}
+use Rattle.machine.specs.Instruction.{Code}
 use Rattle.model.specs.Figure.{Event, Step, idle, turned}
 use Rattle.model.specs.Tables.{Tables, decode}
 use Rattle.model.specs.Refusals.{faultOf}
@@ -13,7 +14,7 @@ use Rattle.model.specs.Calls.{answerNumber, ifDone, eventAnswer, takeIn,
 
 -- the calls that may alter the tables, each with its further arguments as the caller passes them
 pub data Call : Type 0 where
-  takeInCall : ℕ → List ℕ → Call
+  takeInCall : ℕ → Code → Call
   packageCall : List ℕ → List ℕ → Call
   withdrawCall : ℕ → Call
   turnCall : Call

@@ -1,16 +1,17 @@
--- The layout of a package, the changes and withdrawals that it holds (document 01, "Calls", refusal 3), and the package of given ones (document 02, R-3).
+-- The layout of a package, the changes and withdrawals that it holds (document 01, "Calls", refusal 3; document 02, R-6), and the package of given ones (document 02, R-3).
 use mathlib.Core.Bool.{Bool, cond, _||_}
 use mathlib.Core.List.{List, [], _∷_, _++_}
 use Prim.Native.Nat.{ℕ, zero, suc, _+_, _*_, _/_, _%_}
 use lib.Dec.{eqb, leb}
 use lib.ListN.{length, getD, take, drop}
+use Rattle.machine.specs.Instruction.{Code, code}
 use Rattle.machine.specs.Form.{allBelow}
 use Rattle.model.specs.History.{tabulate}
 use Rattle.model.specs.Form.{every}
 
 -- a taking in or a withdrawal, as a call of its own or as an entry of a package
 pub data Item : Type 0 where
-  taking : ℕ → List ℕ → Item
+  taking : ℕ → Code → Item
   withdrawing : ℕ → Item
 
 -- the number in so many bytes at i, low byte first
@@ -29,7 +30,7 @@ byteLimit = 65535
 abbrev pub entryCount : List ℕ → ℕ
 entryCount bytes = numberAt bytes 0 2
 
--- entry j, of 12 bytes: timestamp (8), kind, instruction count, two zero bytes
+-- entry j, of 12 bytes: timestamp (8), kind, instruction count, version (document 02, R-6: "The first zero byte of a package entry becomes the version"), a zero byte
 abbrev pub entryAt : ℕ → ℕ
 entryAt j = 2 + 12 * j
 
@@ -42,14 +43,18 @@ kindOf bytes j = getD bytes (entryAt j + 8) 0
 abbrev pub countOf : List ℕ → ℕ → ℕ
 countOf bytes j = getD bytes (entryAt j + 9) 0
 
--- kind 0 change or 1 withdrawal; count 0 to 32, and 0 for a withdrawal; two zero bytes
+abbrev pub versionOf : List ℕ → ℕ → ℕ
+versionOf bytes j = getD bytes (entryAt j + 10) 0
+
+-- kind 0 change or 1 withdrawal; count 0 to 32, and 0 for a withdrawal; version 0 or 1, and 0 for a withdrawal; a zero byte
 abbrev pub entryFits : List ℕ → ℕ → Bool
 entryFits bytes j =
     every
     (leb (kindOf bytes j) 1
     ∷ leb (countOf bytes j) 32
     ∷ (eqb (kindOf bytes j) 0 || eqb (countOf bytes j) 0)
-    ∷ eqb (getD bytes (entryAt j + 10) 0) 0
+    ∷ leb (versionOf bytes j) 1
+    ∷ (eqb (kindOf bytes j) 0 || eqb (versionOf bytes j) 0)
     ∷ eqb (getD bytes (entryAt j + 11) 0) 0
     ∷ [])
 
@@ -76,7 +81,9 @@ layoutFits bytes =
 
 abbrev pub itemAt : List ℕ → ℕ → Item
 itemAt bytes j =
-    cond (eqb (kindOf bytes j) 0) (taking (stampOf bytes j) (take (8 * countOf bytes j) (drop (bodyAt bytes j) bytes))) (withdrawing (stampOf bytes j))
+    cond (eqb (kindOf bytes j) 0)
+    (taking (stampOf bytes j) (code (versionOf bytes j) (take (8 * countOf bytes j) (drop (bodyAt bytes j) bytes))))
+    (withdrawing (stampOf bytes j))
 
 unfoldable pub itemsOf : List ℕ → List Item
 itemsOf bytes = tabulate (entryCount bytes) (itemAt bytes)
@@ -88,18 +95,18 @@ abbrev pub numberBytes : ℕ → ℕ → List ℕ
 numberBytes zero number = []
 numberBytes (suc k) number = number % 256 ∷ numberBytes k (number / 256)
 
--- an entry: timestamp (8), kind, instruction count, two zero bytes
-abbrev pub entryBytes : ℕ → ℕ → ℕ → List ℕ
-entryBytes t kind count = numberBytes 8 t ++ (kind ∷ count ∷ 0 ∷ 0 ∷ [])
+-- an entry: timestamp (8), kind, instruction count, version, a zero byte
+abbrev pub entryBytes : ℕ → ℕ → ℕ → ℕ → List ℕ
+entryBytes t kind count version = numberBytes 8 t ++ (kind ∷ count ∷ version ∷ 0 ∷ [])
 
--- kind 0 change or 1 withdrawal
+-- kind 0 change or 1 withdrawal, which "has version 0" (document 02, R-6)
 abbrev pub itemEntry : Item → List ℕ
-itemEntry (taking t p) = entryBytes t 0 (length p / 8)
-itemEntry (withdrawing t) = entryBytes t 1 0
+itemEntry (taking t p) = entryBytes t 0 (length (p .bytes) / 8) (p .version)
+itemEntry (withdrawing t) = entryBytes t 1 0 0
 
--- a change's body is its program
+-- a change's body is its program's bytes
 abbrev pub itemBody : Item → List ℕ
-itemBody (taking t p) = p
+itemBody (taking t p) = p .bytes
 itemBody (withdrawing t) = []
 
 -- the pieces of the elements of a list, without gaps

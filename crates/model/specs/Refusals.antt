@@ -6,6 +6,7 @@ use Prim.Native.Nat.{ℕ}
 use lib.Dec.{eqb, leb}
 use lib.ListN.{length}
 use Rattle.machine.specs.Settings.{settingCount}
+use Rattle.machine.specs.Instruction.{Code}
 use Rattle.machine.specs.Form.{lengthFits, wellFormed}
 use Rattle.model.specs.History.{isTimestamp, Change, program, withdrawn}
 use Rattle.model.specs.Cabinet.{Cabinet, historyOf, find}
@@ -54,34 +55,42 @@ abbrev pub noSetting : ℕ → Test
 noSetting s = test 5 (leb settingCount s)
 
 -- 6: the program is over 256 bytes or no multiple of 8
-abbrev pub wrongProgramLength : List ℕ → Test
-wrongProgramLength p = test 6 (not (lengthFits p))
+abbrev pub wrongProgramLength : Code → Test
+wrongProgramLength p = test 6 (not (lengthFits (p .bytes)))
+
+-- 13: the version is above 1 (document 02, R-6: "A direct call with a version above 1 gets refusal 13, just after 6")
+abbrev pub noVersion : Code → Test
+noVersion p = test 13 (not (leb (p .version) 1))
 
 -- 7: an instruction is not in the table, or a register, n or unused part is wrong
-abbrev pub malformed : List ℕ → Test
-malformed p = test 7 (not (wellFormed p))
+abbrev pub malformed : Code → Test
+malformed p = test 7 (not (wellFormed (p .bytes)))
 
--- are two programs the same bytes
+-- are two lists the same bytes
 abbrev pub sameBytes : List ℕ → List ℕ → Bool
 sameBytes [] [] = true
 sameBytes [] (y ∷ ys) = false
 sameBytes (x ∷ xs) [] = false
 sameBytes (x ∷ xs) (y ∷ ys) = eqb x y && sameBytes xs ys
 
+-- are two programs the same: "The version is part of the program when a timestamp is already held" (document 02, R-6)
+abbrev pub sameProgram : Code → Code → Bool
+sameProgram p q = eqb (p .version) (q .version) && sameBytes (p .bytes) (q .bytes)
+
 abbrev pub isHeld : Option Change → Bool
 isHeld none = false
 isHeld (some c) = true
 
-abbrev pub holdsOther : Option Change → List ℕ → Bool
+abbrev pub holdsOther : Option Change → Code → Bool
 holdsOther none p = false
-holdsOther (some c) p = not (sameBytes (program c) p)
+holdsOther (some c) p = not (sameProgram (program c) p)
 
 abbrev pub isWithdrawn : Option Change → Bool
 isWithdrawn none = false
 isWithdrawn (some c) = withdrawn c
 
 -- 8: the timestamp is held with another program
-abbrev pub heldOtherwise : Cabinet → ℕ → List ℕ → Test
+abbrev pub heldOtherwise : Cabinet → ℕ → Code → Test
 heldOtherwise c t p = test 8 (holdsOther (find t (historyOf c)) p)
 
 -- 9: the held count equals N and the timestamp is not held

@@ -18,8 +18,9 @@ Rising b (c ∷ h) = (b < timestamp c) × (timestamp c < infinity) × Rising (ti
 pub record ChangeSound (c : Change) : Type 0 where
   pub above : 0 < timestamp c
   pub below : timestamp c < infinity
-  pub sized : lengthFits (program c) ≡ true
-  pub formed : wellFormed (program c) ≡ true
+  pub sized : lengthFits (program c .bytes) ≡ true
+  pub versioned : program c .version ≤ 1
+  pub formed : wellFormed (program c .bytes) ≡ true
   pub reads : Bounded (lists c .reads)
   pub writes : Bounded (lists c .writes)
   pub new : status c ≡ New → lists c ≡ empty

@@ -1,14 +1,15 @@
--- The fourteen lent tables, and the cabinet that they hold (document 01, "Tables").
+-- The fifteen lent tables, and the cabinet that they hold (document 01, "Tables"; document 02, R-6).
 use mathlib.Core.Bool.{Bool, true, false}
 use mathlib.Core.List.{List, [], _∷_, _++_, map}
 use Prim.Native.Nat.{ℕ, zero, suc, _-_, _*_, _/_}
 use lib.IntN.{ℤ, pos}
 use lib.ListN.{length, getD, take, drop, replicate}
 use Rattle.machine.specs.Settings.{Entry, entries}
+use Rattle.machine.specs.Instruction.{Code, code}
 use Rattle.model.specs.History.{Status, New, Valid, Invalid, Change, change, timestamp, program, status, withdrawn, lists, tabulate}
 use Rattle.model.specs.Cabinet.{Cabinet}
 
--- held count; by place: timestamps, order, status, withdrawn, program lengths in instructions, programs, read and write counts, read settings, seen values, write settings, written values; the view
+-- held count; by place: timestamps, order, status, withdrawn, program lengths in instructions, programs, read and write counts, read settings, seen values, write settings, written values; the view; by place, versions
 pub record Tables : Type 0 where
   pub held : List ℕ
   pub timestamps : List ℕ
@@ -24,10 +25,11 @@ pub record Tables : Type 0 where
   pub targets : List ℕ
   pub written : List ℤ
   pub view : List ℤ
+  pub versions : List ℕ
 
 -- the tables as they are lent
-abbrev pub tables : List ℕ → List ℕ → List ℕ → List ℕ → List ℕ → List ℕ → List ℕ → List ℕ → List ℕ → List ℕ → List ℤ → List ℕ → List ℤ → List ℤ → Tables
-tables held timestamps order status withdrawn lengths programs reads writes sources seen targets written view =
+abbrev pub tables : List ℕ → List ℕ → List ℕ → List ℕ → List ℕ → List ℕ → List ℕ → List ℕ → List ℕ → List ℕ → List ℤ → List ℕ → List ℤ → List ℤ → List ℕ → Tables
+tables held timestamps order status withdrawn lengths programs reads writes sources seen targets written view versions =
     record {
       held = held;
       timestamps = timestamps;
@@ -43,29 +45,30 @@ tables held timestamps order status withdrawn lengths programs reads writes sour
       targets = targets;
       written = written;
       view = view;
+      versions = versions;
     }
 
 -- ---- the tables after a call, by what it alters of them
 
 -- take in
-abbrev pub withTaking : Tables → List ℕ → List ℕ → List ℕ → List ℕ → List ℕ → Tables
-withTaking T held timestamps order lengths programs =
-    tables held timestamps order (T .status) (T .withdrawn) lengths programs (T .reads) (T .writes) (T .sources) (T .seen) (T .targets) (T .written) (T .view)
+abbrev pub withTaking : Tables → List ℕ → List ℕ → List ℕ → List ℕ → List ℕ → List ℕ → Tables
+withTaking T held timestamps order lengths programs versions =
+    tables held timestamps order (T .status) (T .withdrawn) lengths programs (T .reads) (T .writes) (T .sources) (T .seen) (T .targets) (T .written) (T .view) versions
 
 -- withdraw
 abbrev pub withWithdrawing : Tables → List ℕ → List ℕ → Tables
 withWithdrawing T status withdrawn =
-    tables (T .held) (T .timestamps) (T .order) status withdrawn (T .lengths) (T .programs) (T .reads) (T .writes) (T .sources) (T .seen) (T .targets) (T .written) (T .view)
+    tables (T .held) (T .timestamps) (T .order) status withdrawn (T .lengths) (T .programs) (T .reads) (T .writes) (T .sources) (T .seen) (T .targets) (T .written) (T .view) (T .versions)
 
 -- take in a package
-abbrev pub withPackage : Tables → List ℕ → List ℕ → List ℕ → List ℕ → List ℕ → List ℕ → List ℕ → Tables
-withPackage T held timestamps order status withdrawn lengths programs =
-    tables held timestamps order status withdrawn lengths programs (T .reads) (T .writes) (T .sources) (T .seen) (T .targets) (T .written) (T .view)
+abbrev pub withPackage : Tables → List ℕ → List ℕ → List ℕ → List ℕ → List ℕ → List ℕ → List ℕ → List ℕ → Tables
+withPackage T held timestamps order status withdrawn lengths programs versions =
+    tables held timestamps order status withdrawn lengths programs (T .reads) (T .writes) (T .sources) (T .seen) (T .targets) (T .written) (T .view) versions
 
 -- turn and drain
 abbrev pub withTurn : Tables → List ℕ → List ℕ → List ℕ → List ℕ → List ℤ → List ℕ → List ℤ → List ℤ → Tables
 withTurn T status reads writes sources seen targets written view =
-    tables (T .held) (T .timestamps) (T .order) status (T .withdrawn) (T .lengths) (T .programs) reads writes sources seen targets written view
+    tables (T .held) (T .timestamps) (T .order) status (T .withdrawn) (T .lengths) (T .programs) reads writes sources seen targets written view (T .versions)
 
 -- ---- numbers
 
@@ -120,8 +123,8 @@ encode n c =
       order = pad n 0 (c .order);
       status = column n 0 (λ d. statusNumber (status d)) (c .changes);
       withdrawn = column n 0 (λ d. flagNumber (withdrawn d)) (c .changes);
-      lengths = column n 0 (λ d. length (program d) / 8) (c .changes);
-      programs = blocks n 256 0 program (c .changes);
+      lengths = column n 0 (λ d. length (program d .bytes) / 8) (c .changes);
+      programs = blocks n 256 0 (λ d. program d .bytes) (c .changes);
       reads = column n 0 (λ d. length (lists d .reads)) (c .changes);
       writes = column n 0 (λ d. length (lists d .writes)) (c .changes);
       sources = blocks n 32 0 (λ d. settingsOf (lists d .reads)) (c .changes);
@@ -129,6 +132,7 @@ encode n c =
       targets = blocks n 32 0 (λ d. settingsOf (lists d .writes)) (c .changes);
       written = blocks n 32 (pos 0) (λ d. valuesOf (lists d .writes)) (c .changes);
       view = c .view;
+      versions = column n 0 (λ d. program d .version) (c .changes);
     }
 
 -- ---- from tables to a cabinet
@@ -140,16 +144,20 @@ heldCount T = getD (T .held) 0 0
 abbrev pub slots : {A : Type 0} → ℕ → ℕ → ℕ → List A → List A
 slots width place count l = take count (drop (width * place) l)
 
--- the program of a place, from the two tables that it stands in
+-- the bytes of a place's program, from the two tables that they stand in
 abbrev pub programIn : List ℕ → List ℕ → ℕ → List ℕ
 programIn lengths programs i = slots 256 i (8 * getD lengths i 0) programs
+
+-- the program of a place, with its version
+abbrev pub codeIn : List ℕ → List ℕ → List ℕ → ℕ → Code
+codeIn lengths programs versions i = code (getD versions i 0) (programIn lengths programs i)
 
 -- a list of a place, from the three tables that it stands in
 abbrev pub listIn : List ℕ → List ℕ → List ℤ → ℕ → List Entry
 listIn counts settings values i = entries (getD counts i 0) (drop (32 * i) settings) (drop (32 * i) values)
 
-abbrev pub programAt : Tables → ℕ → List ℕ
-programAt T i = programIn (T .lengths) (T .programs) i
+abbrev pub programAt : Tables → ℕ → Code
+programAt T i = codeIn (T .lengths) (T .programs) (T .versions) i
 
 abbrev pub readsAt : Tables → ℕ → List Entry
 readsAt T i = listIn (T .reads) (T .sources) (T .seen) i

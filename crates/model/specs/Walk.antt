@@ -5,6 +5,7 @@ use Prim.Native.Nat.{ℕ}
 use lib.Dec.{ltb}
 use lib.IntN.{ℤ}
 use Rattle.machine.specs.Settings.{Environment, valueIn, isSome, lookup, after}
+use Rattle.machine.specs.Instruction.{Code}
 use Rattle.machine.specs.Run.{run}
 use Rattle.model.specs.History.{New, Valid, Invalid, Lists, empty, runLists, Change, change, timestamp, lists, History, allSettings, eqZ, allHold}
 use Rattle.model.specs.Figure.{Event, ran, stood, cleared, Step, idle, turned, readsAny, markUpdate}
@@ -33,13 +34,13 @@ pass c idle = idle
 pass c (turned h view e) = turned (c ∷ h) view e
 
 -- new lists for the first change, marking, and the view
-abbrev pub settle : Environment → List ℤ → ℕ → List ℕ → Bool → Lists → Lists → History → Event → Step
+abbrev pub settle : Environment → List ℤ → ℕ → Code → Bool → Lists → Lists → History → Event → Step
 settle env view t p w old new h e =
     turned (change t p Valid w new ∷ markLive (differs old new env) h)
     (allSettings (λ x. cond (liveAtEnd (differs old new env) h x) (after (new .writes) env x) (valueIn view x)))
     e
 
-abbrev pub retry : Bool → Environment → List ℤ → ℕ → List ℕ → Lists → History → Step
+abbrev pub retry : Bool → Environment → List ℤ → ℕ → Code → Lists → History → Step
 retry true env view t p old h = turned (change t p Valid false old ∷ h) view (stood t)
 retry false env view t p old h = settle env view t p false old (runLists env p) h (ran t (run env p))
 
@@ -53,6 +54,6 @@ walk env view (change t p Invalid true l ∷ h) = settle env view t p true l emp
 walk env view (change t p Invalid false l ∷ h) = retry (allHold (l .reads) env) env view t p l h
 
 -- the history with a change taken in: New, not withdrawn, lists empty, below the first change stamped above t
-abbrev pub insert : ℕ → List ℕ → History → History
+abbrev pub insert : ℕ → Code → History → History
 insert t p [] = change t p New false empty ∷ []
 insert t p (c ∷ h) = cond (ltb t (timestamp c)) (change t p New false empty ∷ c ∷ h) (c ∷ insert t p h)

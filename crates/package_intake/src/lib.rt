@@ -7,6 +7,7 @@ use packages::entry_count;
 use packages::kind_at;
 use packages::refusal_with;
 use packages::timestamp_at;
+use packages::version_at;
 use tables::form::fault;
 use taking::take_item;
 use withdrawing::withdraw_item;
@@ -26,22 +27,23 @@ fn take_entry(
     withdrawn: &mut [u16],
     lengths: &mut [u16],
     programs: &mut [u8],
+    versions: &mut [u16],
     bytes: &[u8],
     j: usize,
     body: usize,
 ) -> Answer
     requires { ⌜
         EntryReady (now bytes) j body
-        (λ T. withPackage T (now held) (now timestamps) (now order) (now status) (now withdrawn) (now lengths) (now programs))
+        (λ T. withPackage T (now held) (now timestamps) (now order) (now status) (now withdrawn) (now lengths) (now programs) (now versions))
         ⌝ }
     ensures { λ r. ⌜
         ItemAnswered
         (λ T.
         withPackage T (now (held .entry)) (now (timestamps .entry)) (now (order .entry)) (now (status .entry))
-        (now (withdrawn .entry)) (now (lengths .entry)) (now (programs .entry)))
+        (now (withdrawn .entry)) (now (lengths .entry)) (now (programs .entry)) (now (versions .entry)))
         (λ T.
         withPackage T (now (held .exit)) (now (timestamps .exit)) (now (order .exit)) (now (status .exit))
-        (now (withdrawn .exit)) (now (lengths .exit)) (now (programs .exit)))
+        (now (withdrawn .exit)) (now (lengths .exit)) (now (programs .exit)) (now (versions .exit)))
         (itemAt (now (bytes .entry)) j) r
         ⌝ }
 {
@@ -54,7 +56,9 @@ fn take_entry(
             order,
             lengths,
             programs,
+            versions,
             t,
+            version_at(bytes, j),
             &bytes[body..end],
         );
     }
@@ -70,21 +74,22 @@ fn take_entries(
     withdrawn: &mut [u16],
     lengths: &mut [u16],
     programs: &mut [u8],
+    versions: &mut [u16],
     bytes: &[u8],
     answers: &mut [u8],
 )
     requires { ⌜
         EntriesReady (now bytes) (now answers)
-        (λ T. withPackage T (now held) (now timestamps) (now order) (now status) (now withdrawn) (now lengths) (now programs))
+        (λ T. withPackage T (now held) (now timestamps) (now order) (now status) (now withdrawn) (now lengths) (now programs) (now versions))
         ⌝ }
     ensures { λ _. ⌜
         EntriesTaken (now (bytes .entry)) (now (answers .entry)) (now (answers .exit))
         (λ T.
         withPackage T (now (held .entry)) (now (timestamps .entry)) (now (order .entry)) (now (status .entry))
-        (now (withdrawn .entry)) (now (lengths .entry)) (now (programs .entry)))
+        (now (withdrawn .entry)) (now (lengths .entry)) (now (programs .entry)) (now (versions .entry)))
         (λ T.
         withPackage T (now (held .exit)) (now (timestamps .exit)) (now (order .exit)) (now (status .exit))
-        (now (withdrawn .exit)) (now (lengths .exit)) (now (programs .exit)))
+        (now (withdrawn .exit)) (now (lengths .exit)) (now (programs .exit)) (now (versions .exit)))
         ⌝ }
 {
     let count = entry_count(bytes);
@@ -100,6 +105,7 @@ fn take_entries(
             withdrawn,
             lengths,
             programs,
+            versions,
             bytes,
             j,
             body,
@@ -129,6 +135,7 @@ pub fn take_in_package(
     targets: &[u16],
     written: &[i32],
     view: &[i32],
+    versions: &mut [u16],
     bytes: &[u8],
     answers: &mut [u8],
 ) -> Answer
@@ -136,10 +143,10 @@ pub fn take_in_package(
         (let T =
         tables (now (held .entry)) (now (timestamps .entry)) (now (order .entry)) (now (status .entry)) (now (withdrawn .entry))
         (now (lengths .entry)) (now (programs .entry)) (now (reads .entry)) (now (writes .entry)) (now (sources .entry))
-        (now (seen .entry)) (now (targets .entry)) (now (written .entry)) (now (view .entry)) in
+        (now (seen .entry)) (now (targets .entry)) (now (written .entry)) (now (view .entry)) (now (versions .entry)) in
         packageReply r
         (withPackage T (now (held .exit)) (now (timestamps .exit)) (now (order .exit)) (now (status .exit))
-        (now (withdrawn .exit)) (now (lengths .exit)) (now (programs .exit)))
+        (now (withdrawn .exit)) (now (lengths .exit)) (now (programs .exit)) (now (versions .exit)))
         (now (answers .exit))
         ≡ takeInPackage n T (now (bytes .entry)) (now (answers .entry)))
         ⌝ }
@@ -163,6 +170,7 @@ pub fn take_in_package(
         targets,
         written,
         view,
+        versions,
     );
     let refusal = refusal_with(of_tables, bytes);
     if refusal != 0 {
@@ -176,6 +184,7 @@ pub fn take_in_package(
         withdrawn,
         lengths,
         programs,
+        versions,
         bytes,
         answers,
     );

@@ -19,6 +19,6 @@ module _ (n : ℕ) (T : Tables) (bytes : List ℕ) where
   unfolding packageOut
   out-fault e f = rw (faulty n T e (noRoom (length (heldItems T)) (length (packageOf (heldItems T))) (length bytes) ∷ []) f, ne-eqb _ 0 f)
 
-  pub out-formed : {k : ℕ} → Formed n T → k ≡ heldCount T → packedIn (T .order) (T .timestamps) (T .withdrawn) (T .lengths) (T .programs) k bytes ≡ packageOut n T bytes
+  pub out-formed : {k : ℕ} → Formed n T → k ≡ heldCount T → packedIn (T .order) (T .timestamps) (T .withdrawn) (T .lengths) (T .programs) (T .versions) k bytes ≡ packageOut n T bytes
   unfolding packageOut packedIn
   out-formed g e = rw (formed-first g (noRoom (length (heldItems T)) (length (packageOf (heldItems T))) (length bytes) ∷ []), e, entries-are g, package-is g)

@@ -24,13 +24,14 @@ pub fn package_out(
     targets: &[u16],
     written: &[i32],
     view: &[i32],
+    versions: &[u16],
     bytes: &mut [u8],
 ) -> Packed
     ensures { λ r. ⌜
         (let T =
         tables (now (held .entry)) (now (timestamps .entry)) (now (order .entry)) (now (status .entry)) (now (withdrawn .entry))
         (now (lengths .entry)) (now (programs .entry)) (now (reads .entry)) (now (writes .entry)) (now (sources .entry))
-        (now (seen .entry)) (now (targets .entry)) (now (written .entry)) (now (view .entry)) in
+        (now (seen .entry)) (now (targets .entry)) (now (written .entry)) (now (view .entry)) (now (versions .entry)) in
         packedReply r (now (bytes .exit)) ≡ packageOut n T (now (bytes .entry)))
         ⌝ }
 {
@@ -50,6 +51,7 @@ pub fn package_out(
         targets,
         written,
         view,
+        versions,
     );
     if refusal != 0 {
         return Packed::Refused(refusal);
@@ -62,6 +64,7 @@ pub fn package_out(
         withdrawn,
         lengths,
         programs,
+        versions,
         bytes,
     )
 }

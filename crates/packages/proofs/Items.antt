@@ -7,7 +7,8 @@ use native.Mathlib.Omega.{arith}
 use borrow.Author.Tests.{eq-eqb, ne-eqb}
 use lib.ListN.{take, drop}
 use lib.Seq.{take-all, take-suc}
-use Rattle.model.specs.Package.{Item, taking, withdrawing, entryCount, stampOf, kindOf, countOf, bodyAt, itemAt, itemsOf}
+use Rattle.machine.specs.Instruction.{code}
+use Rattle.model.specs.Package.{Item, taking, withdrawing, entryCount, stampOf, kindOf, countOf, versionOf, bodyAt, itemAt, itemsOf}
 use Rattle.model.proofs.Tabulate.{getD-tabulate}
 use Rattle.model.proofs.Packing.{items-count}
 
@@ -28,10 +29,10 @@ module _ (bytes : List ℕ) where
 
   module _ (j : ℕ) {t : ℕ} (stamped : t ≡ stampOf bytes j) where
     -- of kind 0: the body is taken in
-    pub item-taking : {body count : ℕ} → kindOf bytes j ≡ 0 → body ≡ bodyAt bytes j → count ≡ countOf bytes j → taking t (take (body + 8 * count - body) (drop body bytes)) ≡ itemAt bytes j
-    item-taking {body} {count} k b n =
+    pub item-taking : {body count version : ℕ} → kindOf bytes j ≡ 0 → body ≡ bodyAt bytes j → count ≡ countOf bytes j → version ≡ versionOf bytes j → taking t (code version (take (body + 8 * count - body) (drop body bytes))) ≡ itemAt bytes j
+    item-taking {body} {count} k b n v =
         let size : body + 8 * count - body ≡ 8 * count = omega arith in
-        rw (eq-eqb (kindOf bytes j) 0 k, size, stamped, n, b)
+        rw (eq-eqb (kindOf bytes j) 0 k, size, stamped, n, b, v)
 
     -- of another kind: the timestamp is withdrawn
     pub item-withdrawing : (kindOf bytes j ≡ 0 → ⊥) → withdrawing t ≡ itemAt bytes j

@@ -6,7 +6,7 @@ ghost use lib.Dec.{eqb};
 ghost use lib.ListN.{length};
 ghost use Rattle.machine.specs.Form.{allBelow};
 ghost use Rattle.packages.specs.Refusal.{refusalWith};
-ghost use Rattle.model.specs.Package.{numberAt, entryCount, entryAt, stampOf, kindOf, countOf, entryFits, countBefore, layoutFits};
+ghost use Rattle.model.specs.Package.{numberAt, entryCount, entryAt, stampOf, kindOf, countOf, versionOf, entryFits, countBefore, layoutFits};
 
 // The number in size bytes at i, low byte first.
 fn number_at(bytes: &[u8], i: usize, size: usize) -> u64
@@ -62,7 +62,15 @@ pub fn count_at(bytes: &[u8], j: usize) -> usize
     bytes[entry_at(j) + 9] as usize
 }
 
-// Whether entry j has a kind and an instruction count that fits it, and two zero bytes.
+// The version of entry j.
+pub fn version_at(bytes: &[u8], j: usize) -> u16
+    requires { ⌜ entryAt j + 12 ≤ length (now bytes) ⌝ }
+    ensures { λ r. ⌜ r ≡ versionOf (now (bytes .entry)) j ⌝ }
+{
+    bytes[entry_at(j) + 10] as u16
+}
+
+// Whether entry j has a kind, an instruction count and a version that fit it, and a zero byte.
 fn entry_fits(bytes: &[u8], j: usize) -> bool
     requires { ⌜ entryAt j + 12 ≤ length (now bytes) ⌝ }
     ensures { λ r. ⌜ r ≡ entryFits (now (bytes .entry)) j ⌝ }
@@ -70,10 +78,12 @@ fn entry_fits(bytes: &[u8], j: usize) -> bool
     let at = entry_at(j);
     let kind = bytes[at + 8];
     let count = bytes[at + 9];
+    let version = bytes[at + 10];
     (kind <= 1)
         & (count <= 32)
         & ((kind == 0) | (count == 0))
-        & (bytes[at + 10] == 0)
+        & (version <= 1)
+        & ((kind == 0) | (version == 0))
         & (bytes[at + 11] == 0)
 }
 

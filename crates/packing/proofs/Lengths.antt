@@ -14,11 +14,11 @@ use Rattle.packing.specs.Packing.{totalOf, changeEntry, withdrawalBytes,
 use Rattle.packing.specs.Lent.{AtMost}
 
 -- the entries of changes
-pub changes-length : (order timestamps lengths : List ℕ) (k : ℕ) → length (piecesBelow k (changeEntry order timestamps lengths)) ≡ 12 * k
-changes-length order timestamps lengths zero = omega arith
-changes-length order timestamps lengths (suc k) =
-    length-append (piecesBelow k (changeEntry order timestamps lengths)) (changeEntry order timestamps lengths k)
-    ∙ omega (arith, changes-length order timestamps lengths k)
+pub changes-length : (order timestamps lengths versions : List ℕ) (k : ℕ) → length (piecesBelow k (changeEntry order timestamps lengths versions)) ≡ 12 * k
+changes-length order timestamps lengths versions zero = omega arith
+changes-length order timestamps lengths versions (suc k) =
+    length-append (piecesBelow k (changeEntry order timestamps lengths versions)) (changeEntry order timestamps lengths versions k)
+    ∙ omega (arith, changes-length order timestamps lengths versions k)
 
 -- the entry of a withdrawal
 pub withdrawal-length : (flag t : ℕ) → flag ≤ 1 → length (withdrawalBytes flag t) ≡ 12 * flag

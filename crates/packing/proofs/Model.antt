@@ -5,17 +5,18 @@ use mathlib.Core.List.{List, [], _∷_, _++_, append-assoc, append-nil}
 use Prim.Native.Nat.{ℕ, zero, suc, _+_, _*_, _/_, _≤_, _<_}
 use native.Mathlib.Omega.{arith}
 use lib.ListN.{length, getD, length-append, length-map}
+use Rattle.machine.specs.Instruction.{Code}
 use Rattle.machine.proofs.Form.{length-short}
 use Rattle.text.specs.Pieces.{piecesBelow}
 use Rattle.model.specs.History.{Change, change, timestamp, program, withdrawn, History}
 use Rattle.model.specs.Cabinet.{blank}
 use Rattle.model.specs.Tables.{Tables, flagNumber, heldCount, programAt, decode}
 use Rattle.model.specs.Form.{Formed}
-use Rattle.model.specs.Sound.{AllSound}
+use Rattle.model.specs.Sound.{ChangeSound, AllSound}
 use Rattle.model.specs.Package.{entryBytes, itemEntry, itemBody, joined, packageOf, numberBytes}
 use Rattle.model.specs.Book.{Book, booked, bookedAs, bookOf, takings, withdrawals, bookedItems}
 use Rattle.model.specs.Calls.{heldItems}
-use Rattle.model.proofs.Tables.{withdrawn-at, length-at, program-back}
+use Rattle.model.proofs.Tables.{withdrawn-at, length-at, version-at, program-back}
 use Rattle.model.proofs.Packing.{length-entries}
 use Rattle.model.proofs.Form.{facts}
 use Rattle.search.proofs.Model.{historyIn, placed-stamps, held-changes, history-length, by-place, stamped}
@@ -42,23 +43,23 @@ joined-append piece (x ∷ l) m = ap (piece x ++_) (joined-append piece l m) ∙
 -- ---- the parts of a package, by a history
 
 abbrev changeOf : Change → List ℕ
-changeOf c = entryBytes (timestamp c) 0 (length (program c) / 8)
+changeOf c = entryBytes (timestamp c) 0 (length (program c .bytes) / 8) (program c .version)
 
 abbrev withdrawalOf : Change → List ℕ
 withdrawalOf c = withdrawalBytes (flagNumber (withdrawn c)) (timestamp c)
 
 changes-of : (h : History) → joined changeOf h ≡ joined itemEntry (takings (bookOf h))
 changes-of [] = refl
-changes-of (change t p s w l ∷ h) = ap (entryBytes t 0 (length p / 8) ++_) (changes-of h)
+changes-of (change t p s w l ∷ h) = ap (entryBytes t 0 (length (p .bytes) / 8) (p .version) ++_) (changes-of h)
 
 withdrawals-of : (h : History) → joined withdrawalOf h ≡ joined itemEntry (withdrawals (bookOf h))
 withdrawals-of [] = refl
-withdrawals-of (change t p s true l ∷ h) = ap (entryBytes t 1 0 ++_) (withdrawals-of h)
+withdrawals-of (change t p s true l ∷ h) = ap (entryBytes t 1 0 0 ++_) (withdrawals-of h)
 withdrawals-of (change t p s false l ∷ h) = withdrawals-of h
 
-bodies-of : (h : History) → joined program h ≡ joined itemBody (takings (bookOf h))
+bodies-of : (h : History) → joined (λ c. program c .bytes) h ≡ joined itemBody (takings (bookOf h))
 bodies-of [] = refl
-bodies-of (change t p s w l ∷ h) = ap (p ++_) (bodies-of h)
+bodies-of (change t p s w l ∷ h) = ap (p .bytes ++_) (bodies-of h)
 
 -- a withdrawal has no body
 no-bodies : (book : Book) → joined itemBody (withdrawals book) ≡ []
@@ -76,10 +77,11 @@ flag-small : (w : Bool) → flagNumber w ≤ 1
 flag-small true = omega arith
 flag-small false = omega arith
 
-program-short : (changes : List Change) (i : ℕ) → AllSound changes → length (program (getD changes i blank)) ≤ 256
-program-short [] i a = omega arith
-program-short (c ∷ changes) zero a = length-short (program c) (a .0 .sized)
-program-short (c ∷ changes) (suc i) a = program-short changes i (a .1)
+-- what holds of sound changes, and of what stands at a place that is not held, holds at every place
+at-any-place : (P : Change → Type 0) → P blank → ((c : Change) → ChangeSound c → P c) → (changes : List Change) (i : ℕ) → AllSound changes → P (getD changes i blank)
+at-any-place P b h [] i a = b
+at-any-place P b h (c ∷ changes) zero a = h c (a .0)
+at-any-place P b h (c ∷ changes) (suc i) a = at-any-place P b h changes i (a .1)
 
 module _ {n : ℕ} {T : Tables} (g : Formed n T) where
   abbrev count : ℕ
@@ -93,8 +95,8 @@ module _ {n : ℕ} {T : Tables} (g : Formed n T) where
     held-flag : getD (T .withdrawn) place 0 ≡ flagNumber (withdrawn (getD (historyIn T) k blank))
     held-flag = ap (λ (U : Tables). getD (U .withdrawn) place 0) (sym (facts g .laid)) ∙ withdrawn-at n (decode T) place ∙ ap (λ (c : Change). flagNumber (withdrawn c)) (by-place g k h)
 
-    held-length : getD (T .lengths) place 0 ≡ length (program (getD (historyIn T) k blank)) / 8
-    held-length = ap (λ (U : Tables). getD (U .lengths) place 0) (sym (facts g .laid)) ∙ length-at n (decode T) place ∙ ap (λ (c : Change). length (program c) / 8) (by-place g k h)
+    held-length : getD (T .lengths) place 0 ≡ length (program (getD (historyIn T) k blank) .bytes) / 8
+    held-length = ap (λ (U : Tables). getD (U .lengths) place 0) (sym (facts g .laid)) ∙ length-at n (decode T) place ∙ ap (λ (c : Change). length (program c .bytes) / 8) (by-place g k h)
 
     held-program : programAt T place ≡ program (getD (historyIn T) k blank)
     held-program =
@@ -103,10 +105,10 @@ module _ {n : ℕ} {T : Tables} (g : Formed n T) where
         ∙ ap program (by-place g k h)
 
   -- the parts of the package
-  changes-put : piecesBelow count (changeEntry (T .order) (T .timestamps) (T .lengths)) ≡ joined itemEntry (takings (bookOf (historyIn T)))
+  changes-put : piecesBelow count (changeEntry (T .order) (T .timestamps) (T .lengths) (T .versions)) ≡ joined itemEntry (takings (bookOf (historyIn T)))
   changes-put =
-      ap (λ (k : ℕ). piecesBelow k (changeEntry (T .order) (T .timestamps) (T .lengths))) (sym (history-length g))
-      ∙ pieces-joined changeOf (changeEntry (T .order) (T .timestamps) (T .lengths)) (historyIn T) blank (λ k h. let q : k < count = omega (arith, h, history-length g) in ap₂ (λ (t l : ℕ). entryBytes t 0 l) (stamped g k q) (held-length k q))
+      ap (λ (k : ℕ). piecesBelow k (changeEntry (T .order) (T .timestamps) (T .lengths) (T .versions))) (sym (history-length g))
+      ∙ pieces-joined changeOf (changeEntry (T .order) (T .timestamps) (T .lengths) (T .versions)) (historyIn T) blank (λ k h. let q : k < count = omega (arith, h, history-length g) in λ j. entryBytes (stamped g k q j) 0 (held-length k q j) (held-program k q j .version))
       ∙ changes-of (historyIn T)
 
   withdrawals-put : piecesBelow count (withdrawalEntry (T .order) (T .timestamps) (T .withdrawn)) ≡ joined itemEntry (withdrawals (bookOf (historyIn T)))
@@ -118,17 +120,20 @@ module _ {n : ℕ} {T : Tables} (g : Formed n T) where
   bodies-put : piecesBelow count (bodyIn (T .order) (T .lengths) (T .programs)) ≡ joined itemBody (takings (bookOf (historyIn T)))
   bodies-put =
       ap (λ (k : ℕ). piecesBelow k (bodyIn (T .order) (T .lengths) (T .programs))) (sym (history-length g))
-      ∙ pieces-joined program (bodyIn (T .order) (T .lengths) (T .programs)) (historyIn T) blank (λ k h. held-program k (omega (arith, h, history-length g)))
+      ∙ pieces-joined (λ c. program c .bytes) (bodyIn (T .order) (T .lengths) (T .programs)) (historyIn T) blank (λ k h. ap (λ (p : Code). p .bytes) (held-program k (omega (arith, h, history-length g))))
       ∙ bodies-of (historyIn T)
 
-  -- flags are 0 or 1, programs have at most 32 instructions
+  -- flags are 0 or 1, programs have at most 32 instructions, versions are 0 or 1
   flags-small : AtMost 1 (T .withdrawn)
   flags-small = record { each = λ i. rw (← (facts g .laid), withdrawn-at n (decode T) i) (flag-small (withdrawn (getD (decode T .changes) i blank))) }
 
   lengths-small : AtMost 32 (T .lengths)
-  lengths-small = record { each = λ i. rw (← (facts g .laid), length-at n (decode T) i) (omega (arith, program-short (decode T .changes) i (facts g .sound .each))) }
+  lengths-small = record { each = λ i. rw (← (facts g .laid), length-at n (decode T) i) (omega (arith, at-any-place (λ c. length (program c .bytes) ≤ 256) (omega arith) (λ c s. length-short (program c .bytes) (s .sized)) (decode T .changes) i (facts g .sound .each))) }
 
-  pub held-parts : {k : ℕ} → k ≡ heldCount T → HeldParts k (T .order) (T .timestamps) (T .withdrawn) (T .lengths) (T .programs)
+  versions-small : AtMost 1 (T .versions)
+  versions-small = record { each = λ i. rw (← (facts g .laid), version-at n (decode T) i) (at-any-place (λ c. program c .version ≤ 1) (omega arith) (λ c s. s .versioned) (decode T .changes) i (facts g .sound .each)) }
+
+  pub held-parts : {k : ℕ} → k ≡ heldCount T → HeldParts k (T .order) (T .timestamps) (T .withdrawn) (T .lengths) (T .programs) (T .versions)
   held-parts e =
       let l = facts g .sizes in
       rw e
@@ -140,6 +145,8 @@ module _ {n : ℕ} {T : Tables} (g : Formed n T) where
         sizes = l .lengths ∙ sym (l .timestamps);
         short = lengths-small;
         blocks = l .programs ∙ ap (256 *_) (sym (l .timestamps));
+        versioned = l .versions ∙ sym (l .timestamps);
+        version = versions-small;
       })
 
   -- as many entries as items
@@ -150,7 +157,7 @@ module _ {n : ℕ} {T : Tables} (g : Formed n T) where
       let same = ap length withdrawals-put ∙ length-entries (withdrawals book) in
       omega (arith, put, same, length-append (takings book) (withdrawals book), takings-length book, length-map (historyIn T) bookedAs, history-length g)
 
-  pub package-is : packageIn (T .order) (T .timestamps) (T .withdrawn) (T .lengths) (T .programs) count ≡ packageOf (heldItems T)
+  pub package-is : packageIn (T .order) (T .timestamps) (T .withdrawn) (T .lengths) (T .programs) (T .versions) count ≡ packageOf (heldItems T)
   unfolding packageIn packageOf
   package-is =
       let book = bookOf (historyIn T) in

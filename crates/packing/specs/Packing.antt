@@ -17,14 +17,14 @@ totalOf order column zero = 0
 totalOf order column (suc k) = totalOf order column k + getD column (getD order k 0) 0
 
 -- the entry of the change at a position
-abbrev pub changeEntry : List ℕ → List ℕ → List ℕ → ℕ → List ℕ
-changeEntry order timestamps lengths k =
+abbrev pub changeEntry : List ℕ → List ℕ → List ℕ → List ℕ → ℕ → List ℕ
+changeEntry order timestamps lengths versions k =
     let place = getD order k 0 in
-    entryBytes (getD timestamps place 0) 0 (getD lengths place 0)
+    entryBytes (getD timestamps place 0) 0 (getD lengths place 0) (getD versions place 0)
 
 -- that of a withdrawal, by the change's flag and timestamp; none where the flag is 0
 abbrev pub withdrawalBytes : ℕ → ℕ → List ℕ
-withdrawalBytes flag t = cond (eqb flag 0) [] (entryBytes t 1 0)
+withdrawalBytes flag t = cond (eqb flag 0) [] (entryBytes t 1 0 0)
 
 abbrev pub withdrawalEntry : List ℕ → List ℕ → List ℕ → ℕ → List ℕ
 withdrawalEntry order timestamps withdrawn k =
@@ -40,17 +40,17 @@ abbrev pub entriesIn : List ℕ → List ℕ → ℕ → ℕ
 entriesIn order withdrawn count = count + totalOf order withdrawn count
 
 -- the package
-unfoldable pub packageIn : List ℕ → List ℕ → List ℕ → List ℕ → List ℕ → ℕ → List ℕ
-packageIn order timestamps withdrawn lengths programs count =
+unfoldable pub packageIn : List ℕ → List ℕ → List ℕ → List ℕ → List ℕ → List ℕ → ℕ → List ℕ
+packageIn order timestamps withdrawn lengths programs versions count =
     numberBytes 2 (entriesIn order withdrawn count)
-    ++ piecesBelow count (changeEntry order timestamps lengths)
+    ++ piecesBelow count (changeEntry order timestamps lengths versions)
     ++ piecesBelow count (withdrawalEntry order timestamps withdrawn)
     ++ piecesBelow count (bodyIn order lengths programs)
 
 -- put into a slice of bytes, or refused
-unfoldable pub packedIn : List ℕ → List ℕ → List ℕ → List ℕ → List ℕ → ℕ → List ℕ → PackedReply
-packedIn order timestamps withdrawn lengths programs count bytes =
-    let written = packageIn order timestamps withdrawn lengths programs count in
+unfoldable pub packedIn : List ℕ → List ℕ → List ℕ → List ℕ → List ℕ → List ℕ → ℕ → List ℕ → PackedReply
+packedIn order timestamps withdrawn lengths programs versions count bytes =
+    let written = packageIn order timestamps withdrawn lengths programs versions count in
     let r = firstOf (noRoom (entriesIn order withdrawn count) (length written) (length bytes) ∷ []) in
     cond (eqb r 0) (packedReply (packed-answer.Length (length written)) (written ++ drop (length written) bytes))
     (packedReply (packed-answer.Refused r) bytes)

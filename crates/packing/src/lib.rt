@@ -40,13 +40,13 @@ fn put_little_endian(number: u64, size: usize, bytes: &mut [u8], at: usize) -> u
     at + size
 }
 
-// An entry put at `at`: timestamp, kind, instruction count, two zero bytes.
-fn put_entry(timestamp: u64, kind: u8, count: u8, bytes: &mut [u8], at: usize) -> usize
+// An entry put at `at`: timestamp, kind, instruction count, version, a zero byte.
+fn put_entry(timestamp: u64, kind: u8, count: u8, version: u8, bytes: &mut [u8], at: usize) -> usize
     requires { ⌜ at + 12 ≤ length (now bytes) ⌝ }
-    ensures { λ r. ⌜ Put at (entryBytes timestamp kind count) (now (bytes .entry)) (now (bytes .exit)) r ⌝ }
+    ensures { λ r. ⌜ Put at (entryBytes timestamp kind count version) (now (bytes .entry)) (now (bytes .exit)) r ⌝ }
 {
     let end = put_little_endian(timestamp, 8, bytes, at);
-    put(&[kind, count, 0, 0], bytes, end)
+    put(&[kind, count, version, 0], bytes, end)
 }
 
 // The entries of the first count changes of the order list.
@@ -55,15 +55,19 @@ fn put_changes(
     order: &[u16],
     timestamps: &[u64],
     lengths: &[u16],
+    versions: &[u16],
     bytes: &mut [u8],
     at: usize,
 ) -> usize
     requires { ⌜
         PlacesWithin count (now order) (length (now timestamps)) × (length (now lengths) ≡ length (now timestamps))
-        × AtMost 32 (now lengths) × (at + 12 * count ≤ length (now bytes))
+        × AtMost 32 (now lengths) × (length (now versions) ≡ length (now timestamps)) × AtMost 1 (now versions)
+        × (at + 12 * count ≤ length (now bytes))
         ⌝ }
     ensures { λ r. ⌜
-        Put at (piecesBelow count (changeEntry (now (order .entry)) (now (timestamps .entry)) (now (lengths .entry))))
+        Put at
+        (piecesBelow count
+        (changeEntry (now (order .entry)) (now (timestamps .entry)) (now (lengths .entry)) (now (versions .entry))))
         (now (bytes .entry)) (now (bytes .exit)) r
         ⌝ }
 {
@@ -71,7 +75,14 @@ fn put_changes(
     let mut k = 0;
     while k < count {
         let place = order[k] as usize;
-        end = put_entry(timestamps[place], 0, lengths[place] as u8, bytes, end);
+        end = put_entry(
+            timestamps[place],
+            0,
+            lengths[place] as u8,
+            versions[place] as u8,
+            bytes,
+            end,
+        );
         k += 1;
     }
     end
@@ -85,7 +96,7 @@ fn put_withdrawal(flag: u16, timestamp: u64, bytes: &mut [u8], at: usize) -> usi
     if flag == 0 {
         return at;
     }
-    put_entry(timestamp, 1, 0, bytes, at)
+    put_entry(timestamp, 1, 0, 0, bytes, at)
 }
 
 // The entries of the withdrawals of the first count changes of the order list.
@@ -154,13 +165,14 @@ pub fn put_package(
     withdrawn: &[u16],
     lengths: &[u16],
     programs: &[u8],
+    versions: &[u16],
     bytes: &mut [u8],
 ) -> Packed
-    requires { ⌜ HeldParts count (now order) (now timestamps) (now withdrawn) (now lengths) (now programs) ⌝ }
+    requires { ⌜ HeldParts count (now order) (now timestamps) (now withdrawn) (now lengths) (now programs) (now versions) ⌝ }
     ensures { λ r. ⌜
         packedReply r (now (bytes .exit))
         ≡ packedIn (now (order .entry)) (now (timestamps .entry)) (now (withdrawn .entry)) (now (lengths .entry))
-        (now (programs .entry)) count (now (bytes .entry))
+        (now (programs .entry)) (now (versions .entry)) count (now (bytes .entry))
         ⌝ }
 {
     let entries = count + total(count, order, withdrawn);
@@ -170,7 +182,7 @@ pub fn put_package(
         return Packed::Refused(12);
     }
     let mut end = put_little_endian(entries as u64, 2, bytes, 0);
-    end = put_changes(count, order, timestamps, lengths, bytes, end);
+    end = put_changes(count, order, timestamps, lengths, versions, bytes, end);
     end = put_withdrawals(count, order, timestamps, withdrawn, bytes, end);
     end = put_bodies(count, order, lengths, programs, bytes, end);
     Packed::Length(end as u16)

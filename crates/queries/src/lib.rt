@@ -46,13 +46,14 @@ pub fn current_value(
     targets: &[u16],
     written: &[i32],
     view: &[i32],
+    versions: &[u16],
     setting: usize,
 ) -> Value
     ensures { λ r. ⌜
         (let T =
         tables (now (held .entry)) (now (timestamps .entry)) (now (order .entry)) (now (status .entry)) (now (withdrawn .entry))
         (now (lengths .entry)) (now (programs .entry)) (now (reads .entry)) (now (writes .entry)) (now (sources .entry))
-        (now (seen .entry)) (now (targets .entry)) (now (written .entry)) (now (view .entry)) in
+        (now (seen .entry)) (now (targets .entry)) (now (written .entry)) (now (view .entry)) (now (versions .entry)) in
         r ≡ currentValue n T setting)
         ⌝ }
 {
@@ -72,6 +73,7 @@ pub fn current_value(
         targets,
         written,
         view,
+        versions,
     );
     if refusal != 0 {
         return Value::Refused(refusal);
@@ -127,6 +129,7 @@ pub fn value_as_of(
     targets: &[u16],
     written: &[i32],
     view: &[i32],
+    versions: &[u16],
     timestamp: u64,
     setting: usize,
 ) -> Value
@@ -134,7 +137,7 @@ pub fn value_as_of(
         (let T =
         tables (now (held .entry)) (now (timestamps .entry)) (now (order .entry)) (now (status .entry)) (now (withdrawn .entry))
         (now (lengths .entry)) (now (programs .entry)) (now (reads .entry)) (now (writes .entry)) (now (sources .entry))
-        (now (seen .entry)) (now (targets .entry)) (now (written .entry)) (now (view .entry)) in
+        (now (seen .entry)) (now (targets .entry)) (now (written .entry)) (now (view .entry)) (now (versions .entry)) in
         r ≡ valueAsOf n T timestamp setting)
         ⌝ }
 {
@@ -154,6 +157,7 @@ pub fn value_as_of(
         targets,
         written,
         view,
+        versions,
     );
     if refusal != 0 {
         return Value::Refused(refusal);
@@ -218,13 +222,14 @@ pub fn standing(
     targets: &[u16],
     written: &[i32],
     view: &[i32],
+    versions: &[u16],
     timestamp: u64,
 ) -> Standing
     ensures { λ r. ⌜
         (let T =
         tables (now (held .entry)) (now (timestamps .entry)) (now (order .entry)) (now (status .entry)) (now (withdrawn .entry))
         (now (lengths .entry)) (now (programs .entry)) (now (reads .entry)) (now (writes .entry)) (now (sources .entry))
-        (now (seen .entry)) (now (targets .entry)) (now (written .entry)) (now (view .entry)) in
+        (now (seen .entry)) (now (targets .entry)) (now (written .entry)) (now (view .entry)) (now (versions .entry)) in
         r ≡ standing n T timestamp)
         ⌝ }
 {
@@ -244,6 +249,7 @@ pub fn standing(
         targets,
         written,
         view,
+        versions,
     );
     if refusal != 0 {
         return Standing::Refused(refusal);
@@ -281,13 +287,14 @@ pub fn plain_run(
     targets: &[u16],
     written: &[i32],
     view: &[i32],
+    versions: &[u16],
     settings: &mut [i32],
 ) -> Answer
     ensures { λ r. ⌜
         (let T =
         tables (now (held .entry)) (now (timestamps .entry)) (now (order .entry)) (now (status .entry)) (now (withdrawn .entry))
         (now (lengths .entry)) (now (programs .entry)) (now (reads .entry)) (now (writes .entry)) (now (sources .entry))
-        (now (seen .entry)) (now (targets .entry)) (now (written .entry)) (now (view .entry)) in
+        (now (seen .entry)) (now (targets .entry)) (now (written .entry)) (now (view .entry)) (now (versions .entry)) in
         plainReply r (now (settings .exit)) ≡ plainRun n T (now (settings .entry)))
         ⌝ }
 {
@@ -310,6 +317,7 @@ pub fn plain_run(
         targets,
         written,
         view,
+        versions,
     );
     if refusal != 0 {
         return Answer::Refused(refusal);
@@ -317,7 +325,15 @@ pub fn plain_run(
     let count = held_count(held);
     let mut values = [0i32; 1024];
     fill_start(&mut values);
-    run_held(count, order, withdrawn, lengths, programs, &mut values);
+    run_held(
+        count,
+        order,
+        withdrawn,
+        lengths,
+        programs,
+        versions,
+        &mut values,
+    );
     copy(&values, settings);
     Answer::Done
 }

@@ -5,6 +5,7 @@ use Prim.Native.Nat.{ℕ, _≤_}
 use native.Mathlib.Omega.{arith}
 use lib.ListN.{length, take}
 use Rattle.machine.specs.Settings.{Environment, entries, Distinct}
+use Rattle.machine.specs.Instruction.{Code}
 use Rattle.machine.specs.Run.{Outcome, run}
 use Rattle.machine.proofs.Lists.{run-bounded}
 use Rattle.run_record.specs.declared.Run.{Run}
@@ -19,7 +20,7 @@ use Rattle.replacement.specs.Replaced.{Fitting, newColumns}
 no-settings : (count : ℕ) (l : List ℕ) → count ≡ 0 → OfSettings (take count l)
 no-settings count l e = rw e (record { below = λ i h. absurd (omega (arith, h)) })
 
-pub made-fits : {a : Act} {r : Run} {l : record-of.Lists} (env : Environment) (p : List ℕ) → (a ≡ act.Stand → ⊥) → length p ≤ 256 → Made a r l (run env p) → Fitting (newColumns r l)
+pub made-fits : {a : Act} {r : Run} {l : record-of.Lists} (env : Environment) (p : Code) → (a ≡ act.Stand → ⊥) → length (p .bytes) ≤ 256 → Made a r l (run env p) → Fitting (newColumns r l)
 made-fits {a} {r} {l} env p moves h m = go a refl
   where
     go : (b : Act) → a ≡ b → Fitting (newColumns r l)

@@ -4,6 +4,7 @@ use mathlib.Core.List.{List}
 use Prim.Native.Nat.{ℕ, _<_, _≤_}
 use lib.IntN.{ℤ, pos}
 use lib.ListN.{length, getD, replicate, length-replicate}
+use Rattle.machine.specs.Instruction.{code}
 use Rattle.machine.specs.Run.{run}
 use Rattle.run_record.specs.declared.Run.{Run}
 use Rattle.run_record.specs.Record as record-of
@@ -33,7 +34,7 @@ module _ {k : ℕ} {C : Columns} {seen written : List ℤ} {lengths programs sta
   pub position-small : (k < length (C .order)) × (k < 4096)
   position-small = (r .at .ordered, r .small)
 
-  module _ {a : Act} (moves : a ≡ act.Stand → ⊥) {new : Run} {l : record-of.Lists} {known' : List ℕ} {before' after'' : List ℤ} (m : Made a new l (run (valuesAt C written k) (programIn lengths programs (getD (C .order) k 0))) × Looked (valuesAt C written k) known known' before' after'') where
+  module _ (version : ℕ) {a : Act} (moves : a ≡ act.Stand → ⊥) {new : Run} {l : record-of.Lists} {known' : List ℕ} {before' after'' : List ℤ} (m : Made a new l (run (valuesAt C written k) (code version (programIn lengths programs (getD (C .order) k 0)))) × Looked (valuesAt C written k) known known' before' after'') where
     pub fits : Fitting (newColumns new l)
     fits = made-fits _ _ moves (subst (λ (p : List ℕ). length p ≤ 256) (program-part (r .runnable)) (program-runs (r .runnable) .0)) (m .0)
 

@@ -6,6 +6,7 @@ use Prim.Native.Nat.{ℕ, _+_, _<_, _≤_}
 use lib.IntN.{ℤ}
 use lib.ListN.{length, getD, take}
 use Rattle.machine.specs.Settings.{settingCount, Environment, Entry, valueIn, entries, after}
+use Rattle.machine.specs.Instruction.{code}
 use Rattle.machine.specs.Run.{run}
 use Rattle.run_record.specs.declared.Run.{Run}
 use Rattle.run_record.specs.Record as record-of
@@ -77,8 +78,8 @@ abbrev pub newColumns : Run → record-of.Lists → NewLists
 newColumns r l = newLists (r .reads) (r .writes) (l .sources) (l .seen) (l .targets) (l .written)
 
 -- the new lists, left by this run, what follows from them, and they are stored
-pub record Replaced (a : Act) (new : Run) (k : ℕ) (C : Columns) (seen written : List ℤ) (lengths programs readers writers status : List ℕ) (view : List ℤ) (status' : List ℕ) (C' : Columns) (seen' written' view' : List ℤ) (settled' known' : List ℕ) (before' after' : List ℤ) : Type 0 where
+pub record Replaced (a : Act) (version : ℕ) (new : Run) (k : ℕ) (C : Columns) (seen written : List ℤ) (lengths programs readers writers status : List ℕ) (view : List ℤ) (status' : List ℕ) (C' : Columns) (seen' written' view' : List ℤ) (settled' known' : List ℕ) (before' after' : List ℤ) : Type 0 where
   pub arrays : record-of.Lists
-  pub made : Made a new arrays (run (valuesAt C written k) (programIn lengths programs (getD (C .order) k 0)))
+  pub made : Made a new arrays (run (valuesAt C written k) (code version (programIn lengths programs (getD (C .order) k 0))))
   pub follows : Propagated k C written (entries (new .writes) (arrays .targets) (arrays .written)) readers writers status view status' view' settled' known' before' after'
   pub put : ListsPut (getD (C .order) k 0) (newColumns new arrays) (C .reads) (C .writes) (C .sources) seen (C .targets) written (C' .reads) (C' .writes) (C' .sources) seen' (C' .targets) written'

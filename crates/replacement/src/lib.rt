@@ -78,9 +78,10 @@ fn propagate(
     restore(&changed[0..count], after, before);
 }
 
-// The lists of the change at position k replaced by those that it has now: none where it is cleared, else those of its run. Answers the run.
+// The lists of the change at position k replaced by those that it has now: none where it is cleared, else those of its run by the rules of its version. Answers the run.
 pub fn replace(
     act: Act,
+    version: u16,
     k: usize,
     order: &[u16],
     status: &mut [u16],
@@ -111,7 +112,7 @@ pub fn replace(
         columns (now (order .entry)) (now (reads .entry)) (now (sources .entry)) (now (writes .entry)) (now (targets .entry)) in
         let C' =
         columns (now (order .entry)) (now (reads .exit)) (now (sources .exit)) (now (writes .exit)) (now (targets .exit)) in
-        Replaced act r k C (now (seen .entry)) (now (written .entry)) (now (lengths .entry)) (now (programs .entry))
+        Replaced act version r k C (now (seen .entry)) (now (written .entry)) (now (lengths .entry)) (now (programs .entry))
         (now (readers .entry)) (now (writers .entry)) (now (status .entry)) (now (view .entry)) (now (status .exit)) C'
         (now (seen .exit)) (now (written .exit)) (now (view .exit)) (now (settled .exit)) (now (known .exit)) (now (before .exit))
         (now (after .exit)))
@@ -123,6 +124,7 @@ pub fn replace(
     let mut new_written = [0i32; 32];
     let run = new_lists(
         act,
+        version,
         k,
         order,
         lengths,

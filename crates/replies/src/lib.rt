@@ -71,20 +71,21 @@ fn put_turns(
     targets: &mut [u16],
     written: &mut [i32],
     view: &mut [i32],
+    versions: &[u16],
     text: &mut [u8],
     at: usize,
 ) -> usize
     requires { ⌜
         Formed capacity
         (tables (now held) (now timestamps) (now order) (now status) (now withdrawn) (now lengths) (now programs)
-        (now reads) (now writes) (now sources) (now seen) (now targets) (now written) (now view))
+        (now reads) (now writes) (now sources) (now seen) (now targets) (now written) (now view) (now versions))
         ⌝ }
     requires { ⌜ at + 8256 ≤ length (now text) ⌝ }
     ensures { λ r. ⌜
         (let T =
         tables (now (held .entry)) (now (timestamps .entry)) (now (order .entry)) (now (status .entry)) (now (withdrawn .entry))
         (now (lengths .entry)) (now (programs .entry)) (now (reads .entry)) (now (writes .entry)) (now (sources .entry))
-        (now (seen .entry)) (now (targets .entry)) (now (written .entry)) (now (view .entry)) in
+        (now (seen .entry)) (now (targets .entry)) (now (written .entry)) (now (view .entry)) (now (versions .entry)) in
         TurnsPut T at (now (text .entry)) (now (text .exit)) (now (view .exit)) r)
         ⌝ }
 {
@@ -107,6 +108,7 @@ fn put_turns(
             targets,
             written,
             view,
+            versions,
         );
         end = put_turn(answer, text, end);
         idle = is_idle(answer);
@@ -145,6 +147,7 @@ pub fn put_reply(
     targets: &mut [u16],
     written: &mut [i32],
     view: &mut [i32],
+    versions: &[u16],
     answer: Answer,
     bytes: &[u8],
     answers: &[u8],
@@ -154,14 +157,14 @@ pub fn put_reply(
         (answerNumber answer ≡ 0 →
         Answered (now bytes)
         (tables (now held) (now timestamps) (now order) (now status) (now withdrawn) (now lengths) (now programs)
-        (now reads) (now writes) (now sources) (now seen) (now targets) (now written) (now view)))
+        (now reads) (now writes) (now sources) (now seen) (now targets) (now written) (now view) (now versions)))
         ⌝ }
     requires { ⌜ (length (now answers) ≡ 512) × (131072 ≤ length (now text)) ⌝ }
     ensures { λ r. ⌜
         (let T =
         tables (now (held .entry)) (now (timestamps .entry)) (now (order .entry)) (now (status .entry)) (now (withdrawn .entry))
         (now (lengths .entry)) (now (programs .entry)) (now (reads .entry)) (now (writes .entry)) (now (sources .entry))
-        (now (seen .entry)) (now (targets .entry)) (now (written .entry)) (now (view .entry)) in
+        (now (seen .entry)) (now (targets .entry)) (now (written .entry)) (now (view .entry)) (now (versions .entry)) in
         Put 0 (replyLines (now (bytes .entry)) (packageReply answer T (now (answers .entry)))) (now (text .entry)) (now (text .exit)) r)
         ⌝ }
     ensures { λ r. ⌜ r ≤ 131072 ⌝ }
@@ -186,6 +189,7 @@ pub fn put_reply(
         targets,
         written,
         view,
+        versions,
         text,
         end,
     );

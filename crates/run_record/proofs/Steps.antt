@@ -3,18 +3,18 @@ use mathlib.Core.Path.{_≡_, refl, sym}
 use mathlib.Core.Bool.{Bool, true, false, cond}
 use Prim.Native.Nat.{ℕ, _+_, _-_, _≤_, _<_}
 use native.Mathlib.Omega.{arith}
-use borrow.Author.Tests.{eq-eqb, eqb-false}
+use borrow.Author.Tests.{eq-eqb, ne-eqb, eqb-false}
 use lib.Dec.{eqb}
 use lib.IntN.{ℤ, natAbs}
 use lib.ListN.{set, length-set}
 use Rattle.machine.specs.declared.Effect.the-variants.{Halt, Assign, Load, Store, Skip}
-use Rattle.machine.specs.Settings.{settingCount, Environment, named, entries}
+use Rattle.machine.specs.Settings.{settingCount, Environment, named, firstValue, replaceFirst, entries}
 use Rattle.machine.specs.Form.{isBelow}
-use Rattle.machine.specs.Run.{Fault, noSetting, readsWritten, writesTwice, State, faults, goes, enter, load, store, perform, settingOr, faulted}
+use Rattle.machine.specs.Run.{Fault, noSetting, readsWritten, writesTwice, State, faults, goes, enter, withRegister, withReads, withWrites, load, store, perform, settingOr, faulted}
 use Rattle.run_record.specs.declared.Run.{Run}
-use Rattle.run_record.specs.Record.{assigned, advanced, ended, enteredRead, enteredWrite, Lists, lists, Sized, stateOf, endingOf, Ready, Stepped}
+use Rattle.run_record.specs.Record.{firstPlace, assigned, advanced, ended, enteredRead, enteredWrite, Lists, lists, Sized, stateOf, endingOf, Ready, Stepped}
 use Rattle.bytecode.proofs.Numbers.{below-limit}
-use Rattle.run_record.proofs.Entries.{entries-stored}
+use Rattle.run_record.proofs.Entries.{FirstPlace, first-place, entries-stored}
 
 -- ---- the number of a setting, or 1,024
 
@@ -54,6 +54,17 @@ past r f l k g p b x y z w =
       sized = z;
     }
 
+-- ---- where a setting stands
+
+module _ {r : Run} {l : Lists} (h : Ready r) (z : Sized l) {k place : ℕ} where
+  -- in the read list
+  pub in-reads : place ≡ firstPlace k (r .reads) (l .sources) → FirstPlace k (r .reads) (l .sources) (l .seen) place
+  in-reads e = rw e (first-place k (r .reads) (l .sources) (l .seen) (omega arith) (omega arith))
+
+  -- in the write list
+  pub in-writes : place ≡ firstPlace k (r .writes) (l .targets) → FirstPlace k (r .writes) (l .targets) (l .written) place
+  in-writes e = rw e (first-place k (r .writes) (l .targets) (l .written) (omega arith) (omega arith))
+
 -- ---- the ways of an effect
 
 module _ (env : Environment) (r : Run) (l : Lists) (h : Ready r) (z : Sized l) where
@@ -79,10 +90,17 @@ module _ (env : Environment) (r : Run) (l : Lists) (h : Ready r) (z : Sized l) w
     unfolding perform
     load-of-none b = rw (setting-out s c b) (broken-off r l h z 2 noSetting refl refl)
 
-    -- the run has written it
-    pub load-of-written : k < settingCount → named k (stateOf r l .writes) ≡ true → Stepped r (perform env (Load a s) (stateOf r l)) (ended r 3 0) l
+    -- the run has written it, in version 0
+    pub load-of-written : k < settingCount → r .version ≡ 0 → named k (stateOf r l .writes) ≡ true → Stepped r (perform env (Load a s) (stateOf r l)) (ended r 3 0) l
     unfolding perform load
-    load-of-written b t = let j = setting-in s c b in rw (j .0, j .1, t) (broken-off r l h z 3 readsWritten refl refl)
+    load-of-written b v t = let j = setting-in s c b in rw (j .0, j .1, t, eq-eqb _ _ v) (broken-off r l h z 3 readsWritten refl refl)
+
+    -- the run has written it, and reads it back
+    pub load-back : {w : ℤ} → k < settingCount → (r .version ≡ 0 → ⊥) → named k (stateOf r l .writes) ≡ true → firstValue k (stateOf r l .writes) ≡ w → Stepped r (perform env (Load a s) (stateOf r l)) (advanced (assigned r a w) 0) l
+    unfolding perform load
+    load-back {w} b v t q =
+        let j = setting-in s c b in
+        rw (j .0, j .1, t, ne-eqb _ _ v, q) (past r (assigned r a w) l 0 (h .going) refl (omega arith) (omega arith) (omega arith) z refl)
 
     -- the run has read it before
     pub load-again : k < settingCount → named k (stateOf r l .writes) ≡ false → named k (stateOf r l .reads) ≡ true → Stepped r (perform env (Load a s) (stateOf r l)) (advanced (assigned r a (env k)) 0) l
@@ -98,7 +116,7 @@ module _ (env : Environment) (r : Run) (l : Lists) (h : Ready r) (z : Sized l) w
         rw (j .0, j .1, t, u)
         (past r (assigned (enteredRead r) a (env k)) _ 0 (h .going) refl (omega arith) (omega arith) (omega arith)
         (record { sources = rw length-set (z .sources); seen = rw length-set (z .seen); targets = z .targets; written = z .written })
-        (λ i. record { registers = set (r .registers) a (env k); reads = more i; writes = stateOf r l .writes }))
+        (λ i. withRegister a (env k) (withReads (more i) (stateOf r l))))
 
   -- a store, where k is the setting of number s, or 1,024
   module _ (s v : ℤ) {k : ℕ} (c : k ≡ settingOr s) where
@@ -107,10 +125,20 @@ module _ (env : Environment) (r : Run) (l : Lists) (h : Ready r) (z : Sized l) w
     unfolding perform
     store-to-none b = rw (setting-out s c b) (broken-off r l h z 2 noSetting refl refl)
 
-    -- the run has written it before
-    pub store-again : k < settingCount → named k (stateOf r l .writes) ≡ true → Stepped r (perform env (Store s v) (stateOf r l)) (ended r 4 0) l
+    -- the run has written it before, in version 0
+    pub store-again : k < settingCount → r .version ≡ 0 → named k (stateOf r l .writes) ≡ true → Stepped r (perform env (Store s v) (stateOf r l)) (ended r 4 0) l
     unfolding perform store
-    store-again b t = let j = setting-in s c b in rw (j .0, j .1, t) (broken-off r l h z 4 writesTwice refl refl)
+    store-again b u t = let j = setting-in s c b in rw (j .0, j .1, t, eq-eqb _ _ u) (broken-off r l h z 4 writesTwice refl refl)
+
+    -- the run has written it before, and replaces the value
+    pub store-over : (place : ℕ) → k < settingCount → (r .version ≡ 0 → ⊥) → named k (stateOf r l .writes) ≡ true → entries (r .writes) (l .targets) (set (l .written) place v) ≡ replaceFirst k v (stateOf r l .writes) → Stepped r (perform env (Store s v) (stateOf r l)) (advanced r 0) (lists (l .sources) (l .seen) (l .targets) (set (l .written) place v))
+    unfolding perform store
+    store-over place b u t q =
+        let j = setting-in s c b in
+        rw (j .0, j .1, t, ne-eqb _ _ u)
+        (past r r _ 0 (h .going) refl (omega arith) (omega arith) (omega arith)
+        (record { sources = z .sources; seen = z .seen; targets = z .targets; written = rw length-set (z .written) })
+        (λ i. withWrites (q i) (stateOf r l)))
 
     -- the run writes it for the first time
     pub store-first : k < settingCount → named k (stateOf r l .writes) ≡ false → Stepped r (perform env (Store s v) (stateOf r l)) (advanced (enteredWrite r) 0) (lists (l .sources) (l .seen) (set (l .targets) (r .writes) k) (set (l .written) (r .writes) v))
@@ -121,4 +149,4 @@ module _ (env : Environment) (r : Run) (l : Lists) (h : Ready r) (z : Sized l) w
         rw (j .0, j .1, t)
         (past r (enteredWrite r) _ 0 (h .going) refl (omega arith) (omega arith) (omega arith)
         (record { sources = z .sources; seen = z .seen; targets = rw length-set (z .targets); written = rw length-set (z .written) })
-        (λ i. record { registers = r .registers; reads = stateOf r l .reads; writes = more i }))
+        (λ i. withWrites (more i) (stateOf r l)))

@@ -2,7 +2,7 @@
 use mathlib.Core.Path.{_≡_}
 use mathlib.Core.Bool.{true, cond}
 use mathlib.Core.List.{List, [], _∷_}
-use Prim.Native.Nat.{ℕ, _+_, _-_, _≤_, _<_}
+use Prim.Native.Nat.{ℕ, zero, suc, _+_, _-_, _≤_, _<_}
 use lib.Dec.{eqb}
 use lib.IntN.{ℤ, pos}
 use lib.ListN.{length, getD, set, replicate}
@@ -20,25 +20,31 @@ use Rattle.run_record.specs.declared.Run.{Run}
 abbrev pub pick : ℕ → ℕ → ℤ → ℤ → ℤ
 pick a i v w = cond (eqb a i) v w
 
+-- the place of the first of count settings that is s, or count where none is
+unfoldable pub firstPlace : ℕ → ℕ → List ℕ → ℕ
+firstPlace s zero settings = 0
+firstPlace s (suc count) [] = suc count
+firstPlace s (suc count) (x ∷ settings) = cond (eqb x s) 0 (suc (firstPlace s count settings))
+
 -- ---- the record after a method
 
-abbrev pub begun : Run
-begun = record { registers = replicate 8 (pos 0); place = 0; reads = 0; writes = 0; state = 0 }
+abbrev pub begun : ℕ → Run
+begun version = record { version = version; registers = replicate 8 (pos 0); place = 0; reads = 0; writes = 0; state = 0 }
 
 abbrev pub assigned : Run → ℕ → ℤ → Run
-assigned r a v = record { registers = set (r .registers) a v; place = r .place; reads = r .reads; writes = r .writes; state = r .state }
+assigned r a v = record { version = r .version; registers = set (r .registers) a v; place = r .place; reads = r .reads; writes = r .writes; state = r .state }
 
 abbrev pub advanced : Run → ℕ → Run
-advanced r k = record { registers = r .registers; place = r .place + 1 + k; reads = r .reads; writes = r .writes; state = r .state }
+advanced r k = record { version = r .version; registers = r .registers; place = r .place + 1 + k; reads = r .reads; writes = r .writes; state = r .state }
 
 abbrev pub ended : Run → ℕ → ℕ → Run
-ended r state writes = record { registers = r .registers; place = r .place; reads = r .reads; writes = writes; state = state }
+ended r state writes = record { version = r .version; registers = r .registers; place = r .place; reads = r .reads; writes = writes; state = state }
 
 abbrev pub enteredRead : Run → Run
-enteredRead r = record { registers = r .registers; place = r .place; reads = r .reads + 1; writes = r .writes; state = r .state }
+enteredRead r = record { version = r .version; registers = r .registers; place = r .place; reads = r .reads + 1; writes = r .writes; state = r .state }
 
 abbrev pub enteredWrite : Run → Run
-enteredWrite r = record { registers = r .registers; place = r .place; reads = r .reads; writes = r .writes + 1; state = r .state }
+enteredWrite r = record { version = r .version; registers = r .registers; place = r .place; reads = r .reads; writes = r .writes + 1; state = r .state }
 
 -- ---- an instruction's parts
 
@@ -96,7 +102,7 @@ pub record Sized (l : Lists) : Type 0 where
 
 abbrev pub stateOf : Run → Lists → State
 stateOf r l =
-    record { registers = r .registers; reads = entries (r .reads) (l .sources) (l .seen); writes = entries (r .writes) (l .targets) (l .written) }
+    record { version = r .version; registers = r .registers; reads = entries (r .reads) (l .sources) (l .seen); writes = entries (r .writes) (l .targets) (l .written) }
 
 -- how a record's run ended, by its state number
 abbrev pub endingOf : Run → Ending

@@ -10,19 +10,21 @@ ghost use mathlib.Core.List.{List};
 ghost use lib.IntN.{ℤ};
 ghost use lib.ListN.{length, set};
 ghost use Rattle.machine.specs.declared.Effect.the-variants.{Load, Store};
-ghost use Rattle.machine.specs.Settings.{Environment, everywhere, named, entries};
+ghost use Rattle.machine.specs.Settings.{Environment, everywhere};
 ghost use Rattle.machine.specs.Form.{isBelow};
 ghost use Rattle.machine.specs.Run.{effect, perform, wanted, settingOr};
-ghost use Rattle.run_record.specs.Record.{pick, resultOf, distanceOf, begun, assigned, advanced, ended, enteredRead, enteredWrite, Operands, Performable, lists, Sized, stateOf, Ready, Stepped};
+ghost use Rattle.run_record.specs.Record.{pick, resultOf, distanceOf, firstPlace, begun, assigned, advanced, ended, enteredRead, enteredWrite, Operands, Performable, lists, Sized, stateOf, Ready, Stepped};
 
 // A run between two instructions.
 pub struct Run {
+    // The version of the rules: 0, or any other for version 1.
+    pub version: u16,
     pub registers: [i32; 8],
     pub place: usize,
     // How many entries the lists have.
     pub reads: usize,
     pub writes: usize,
-    // 0 going on, 1 stopped, 2 a register named no setting, 3 read a setting that it had written, 4 wrote one twice.
+    // 0 going on, 1 stopped, 2 a register named no setting; in version 0, 3 read a setting that it had written, 4 wrote one twice.
     pub state: u8,
 }
 
@@ -71,19 +73,19 @@ fn distance(operation: u8, n: i32, x: i32) -> i32
     n
 }
 
-// Whether the first count entries of a list name a setting.
-fn names(settings: &[u16; 32], count: usize, s: u16) -> bool
+// The place of the first of count settings that is s, or count where none is.
+fn first_place(settings: &[u16; 32], count: usize, s: u16) -> usize
     requires { ⌜ count ≤ 32 ⌝ }
-    ensures { λ r. ⌜ ((values : List ℤ) → length (now (settings .entry)) ≡ 32 → length values ≡ 32 → r ≡ named s (entries count (now (settings .entry)) values)) ⌝ }
+    ensures { λ r. ⌜ (length (now (settings .entry)) ≡ 32 → r ≡ firstPlace s count (now (settings .entry))) ⌝ }
 {
     let mut i = 0;
     while i < count {
         if settings[i] == s {
-            return true;
+            return i;
         }
         i += 1;
     }
-    false
+    count
 }
 
 // The setting of this number, or 1,024, which is no setting.
@@ -110,11 +112,12 @@ pub fn wanted(e: Effect) -> usize
 }
 
 impl Run {
-    // The start of a run.
-    pub fn new() -> Self
-        ensures { λ r. ⌜ r ≡ begun ⌝ }
+    // The start of a run by the rules of a version.
+    pub fn new(version: u16) -> Self
+        ensures { λ r. ⌜ r ≡ begun version ⌝ }
     {
         Self {
+            version,
             registers: [0; 8],
             place: 0,
             reads: 0,
@@ -229,7 +232,8 @@ impl Run {
         Effect::Skip(distance(operation, n, x))
     }
 
-    // Register a set to the setting of number s, whose value is v, or a fault.
+    // Register a set to the setting of number s, or a fault. A setting that the run has not written has the value v; by version 1, one that it has written has
+    // the value that it wrote.
     fn load(
         self,
         a: usize,
@@ -238,19 +242,24 @@ impl Run {
         sources: &mut [u16; 32],
         seen: &mut [i32; 32],
         targets: &[u16; 32],
+        written: &[i32; 32],
     ) -> Self
-        requires { ⌜ Ready self × (a < 8) ⌝ }
-        ensures { λ r. ⌜ ((w : List ℤ) → Sized (lists (now (sources .entry)) (now (seen .entry)) (now (targets .entry)) w) → Stepped self (perform (everywhere v) (Load a s) (stateOf self (lists (now (sources .entry)) (now (seen .entry)) (now (targets .entry)) w))) r (lists (now (sources .exit)) (now (seen .exit)) (now (targets .entry)) w)) ⌝ }
+        requires { ⌜ Ready self × (a < 8) × Sized (lists (now sources) (now seen) (now targets) (now written)) ⌝ }
+        ensures { λ r. ⌜ Stepped self (perform (everywhere v) (Load a s) (stateOf self (lists (now (sources .entry)) (now (seen .entry)) (now (targets .entry)) (now (written .entry))))) r (lists (now (sources .exit)) (now (seen .exit)) (now (targets .entry)) (now (written .entry))) ⌝ }
     {
         let k = setting_or(s);
         if 1024 <= k {
             return self.fault(2);
         }
         let source = k as u16;
-        if names(targets, self.writes, source) {
-            return self.fault(3);
+        let own = first_place(targets, self.writes, source);
+        if own < self.writes {
+            if self.version == 0 {
+                return self.fault(3);
+            }
+            return self.assign(a, written[own]).advance(0);
         }
-        if names(sources, self.reads, source) {
+        if first_place(sources, self.reads, source) < self.reads {
             return self.assign(a, v).advance(0);
         }
         self.enter_read(source, v, sources, seen)
@@ -258,7 +267,7 @@ impl Run {
             .advance(0)
     }
 
-    // The setting of number s set to v, or a fault.
+    // The setting of number s set to v, or a fault. By version 1, a second write replaces the value of the first.
     fn store(self, s: i32, v: i32, targets: &mut [u16; 32], written: &mut [i32; 32]) -> Self
         requires { ⌜ Ready self ⌝ }
         ensures { λ r. ⌜ ((env : Environment) (p : List ℕ) (q : List ℤ) → Sized (lists p q (now (targets .entry)) (now (written .entry))) → Stepped self (perform env (Store s v) (stateOf self (lists p q (now (targets .entry)) (now (written .entry))))) r (lists p q (now (targets .exit)) (now (written .exit)))) ⌝ }
@@ -268,8 +277,13 @@ impl Run {
             return self.fault(2);
         }
         let target = k as u16;
-        if names(targets, self.writes, target) {
-            return self.fault(4);
+        let own = first_place(targets, self.writes, target);
+        if own < self.writes {
+            if self.version == 0 {
+                return self.fault(4);
+            }
+            written[own] = v;
+            return self.advance(0);
         }
         self.enter_write(target, v, targets, written).advance(0)
     }
@@ -290,7 +304,7 @@ impl Run {
         match e {
             Effect::Halt => self.stop(),
             Effect::Assign(a, x) => self.assign(a, x).advance(0),
-            Effect::Load(a, s) => self.load(a, s, v, sources, seen, targets),
+            Effect::Load(a, s) => self.load(a, s, v, sources, seen, targets, written),
             Effect::Store(s, x) => self.store(s, x, targets, written),
             Effect::Skip(n) => self.advance(n as usize),
         }

@@ -26,16 +26,17 @@ pub fn set_up(
     targets: &mut [u16],
     written: &mut [i32],
     view: &mut [i32],
+    versions: &mut [u16],
 ) -> Answer
     ensures { λ r. ⌜
         (let T =
         tables (now (held .entry)) (now (timestamps .entry)) (now (order .entry)) (now (status .entry)) (now (withdrawn .entry))
         (now (lengths .entry)) (now (programs .entry)) (now (reads .entry)) (now (writes .entry)) (now (sources .entry))
-        (now (seen .entry)) (now (targets .entry)) (now (written .entry)) (now (view .entry)) in
+        (now (seen .entry)) (now (targets .entry)) (now (written .entry)) (now (view .entry)) (now (versions .entry)) in
         reply r
         (tables (now (held .exit)) (now (timestamps .exit)) (now (order .exit)) (now (status .exit)) (now (withdrawn .exit))
         (now (lengths .exit)) (now (programs .exit)) (now (reads .exit)) (now (writes .exit)) (now (sources .exit))
-        (now (seen .exit)) (now (targets .exit)) (now (written .exit)) (now (view .exit)))
+        (now (seen .exit)) (now (targets .exit)) (now (written .exit)) (now (view .exit)) (now (versions .exit)))
         ≡ setUp n T)
         ⌝ }
 {
@@ -55,6 +56,7 @@ pub fn set_up(
         targets,
         written,
         view,
+        versions,
     ) {
         return Answer::Refused(1);
     }
@@ -72,5 +74,6 @@ pub fn set_up(
     clear_u16(targets);
     clear_i32(written);
     fill_start(view);
+    clear_u16(versions);
     Answer::Done
 }

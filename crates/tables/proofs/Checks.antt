@@ -57,7 +57,7 @@ module _ (n : ℕ) (T : Tables) {k : ℕ} (e : k ≡ heldCount T) where
   pub form-tested :
       {heads order programs reads writes unused : Bool}
       → k ≤ n
-      → heads ≡ allBelow k (headFits (T .timestamps) (T .status) (T .withdrawn) (T .reads) (T .writes))
+      → heads ≡ allBelow k (headFits (T .timestamps) (T .status) (T .withdrawn) (T .reads) (T .writes) (T .versions))
       → order ≡ allBelow k (orderFits (T .order) (T .timestamps) k)
       → programs ≡ allBelow k (programFits (T .lengths) (T .programs))
       → reads ≡ allBelow k (listFits (T .reads) (T .sources) (T .seen))

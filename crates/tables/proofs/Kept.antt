@@ -45,6 +45,9 @@ written-kept kept = targets-kept (kept .1)
 abbrev pub view-kept : {A B C D E F G H I J K L M N Rest : Type 0} → A × (B × (C × (D × (E × (F × (G × (H × (I × (J × (K × (L × (M × (N × Rest))))))))))))) → N
 view-kept kept = written-kept (kept .1)
 
+abbrev pub versions-kept : {A B C D E F G H I J K L M N O Rest : Type 0} → A × (B × (C × (D × (E × (F × (G × (H × (I × (J × (K × (L × (M × (N × (O × Rest)))))))))))))) → O
+versions-kept kept = view-kept (kept .1)
+
 -- what follows the tables
-abbrev pub behind-tables : {A B C D E F G H I J K L M N Rest : Type 0} → A × (B × (C × (D × (E × (F × (G × (H × (I × (J × (K × (L × (M × (N × Rest))))))))))))) → Rest
-behind-tables kept = kept .1 .1 .1 .1 .1 .1 .1 .1 .1 .1 .1 .1 .1 .1
+abbrev pub behind-tables : {A B C D E F G H I J K L M N O Rest : Type 0} → A × (B × (C × (D × (E × (F × (G × (H × (I × (J × (K × (L × (M × (N × (O × Rest)))))))))))))) → Rest
+behind-tables kept = kept .1 .1 .1 .1 .1 .1 .1 .1 .1 .1 .1 .1 .1 .1 .1

@@ -32,12 +32,13 @@ pub fn lengths_fit(
     targets: &[u16],
     written: &[i32],
     view: &[i32],
+    versions: &[u16],
 ) -> bool
     ensures { λ r. ⌜
         (let T =
         tables (now (held .entry)) (now (timestamps .entry)) (now (order .entry)) (now (status .entry)) (now (withdrawn .entry))
         (now (lengths .entry)) (now (programs .entry)) (now (reads .entry)) (now (writes .entry)) (now (sources .entry))
-        (now (seen .entry)) (now (targets .entry)) (now (written .entry)) (now (view .entry)) in
+        (now (seen .entry)) (now (targets .entry)) (now (written .entry)) (now (view .entry)) (now (versions .entry)) in
         r ≡ lengthsFit n T)
         ⌝ }
 {
@@ -59,6 +60,7 @@ pub fn lengths_fit(
         & (targets.len() == slots)
         & (written.len() == slots)
         & (view.len() == 1024)
+        & (versions.len() == n)
 }
 
 // Whether the slots of places from count on are 0.
@@ -76,6 +78,7 @@ fn unused_fits(
     seen: &[i32],
     targets: &[u16],
     written: &[i32],
+    versions: &[u16],
 ) -> bool
     requires { ⌜ count ≤ 4096 ⌝ }
     ensures { λ r. ⌜
@@ -83,7 +86,7 @@ fn unused_fits(
         ≡ unusedFits
         (tables [] (now (timestamps .entry)) (now (order .entry)) (now (status .entry)) (now (withdrawn .entry)) (now (lengths .entry))
         (now (programs .entry)) (now (reads .entry)) (now (writes .entry)) (now (sources .entry)) (now (seen .entry))
-        (now (targets .entry)) (now (written .entry)) [])
+        (now (targets .entry)) (now (written .entry)) [] (now (versions .entry)))
         count
         ⌝ }
 {
@@ -101,6 +104,7 @@ fn unused_fits(
         & rest_zero_i32(seen, slots)
         & rest_zero_u16(targets, slots)
         & rest_zero_i32(written, slots)
+        & rest_zero_u16(versions, count)
 }
 
 // Refusal 1 or 2, or 0.
@@ -120,12 +124,13 @@ pub fn fault(
     targets: &[u16],
     written: &[i32],
     view: &[i32],
+    versions: &[u16],
 ) -> u8
     ensures { λ r. ⌜
         (let T =
         tables (now (held .entry)) (now (timestamps .entry)) (now (order .entry)) (now (status .entry)) (now (withdrawn .entry))
         (now (lengths .entry)) (now (programs .entry)) (now (reads .entry)) (now (writes .entry)) (now (sources .entry))
-        (now (seen .entry)) (now (targets .entry)) (now (written .entry)) (now (view .entry)) in
+        (now (seen .entry)) (now (targets .entry)) (now (written .entry)) (now (view .entry)) (now (versions .entry)) in
         r ≡ faultOf n T)
         ⌝ }
 {
@@ -145,6 +150,7 @@ pub fn fault(
         targets,
         written,
         view,
+        versions,
     ) {
         return 1;
     }
@@ -152,7 +158,15 @@ pub fn fault(
     if n < count {
         return 2;
     }
-    let fits = heads_fit(count, timestamps, status, withdrawn, reads, writes)
+    let fits = heads_fit(
+        count,
+        timestamps,
+        status,
+        withdrawn,
+        reads,
+        writes,
+        versions,
+    )
         & order_fits(count, order, timestamps)
         & programs_fit(count, lengths, programs)
         & lists_fit(count, reads, sources, seen)
@@ -171,6 +185,7 @@ pub fn fault(
             seen,
             targets,
             written,
+            versions,
         );
     if fits { 0 } else { 2 }
 }

@@ -9,6 +9,7 @@ use borrow.Author.Tests.{lt-ltb, le-ltb, eqb-false}
 use lib.Dec.{eqb}
 use lib.IntN.{pos}
 use lib.ListN.{length, getD, set, take, drop, length-append}
+use Rattle.machine.specs.Instruction.{Code}
 use Rattle.machine.proofs.Cases.{by-test}
 use Rattle.model.specs.History.{New, empty, Change, change, timestamp, program, status, withdrawn, lists, History}
 use Rattle.model.specs.Cabinet.{Cabinet, blank, changesAt, historyOf, find, enterPlace, add}
@@ -44,11 +45,11 @@ module _ (changes : List Change) (t place : ℕ) where
 -- ---- the tables
 
 -- tables with a change more, at the place of number count and a position of the order list
-abbrev pub enteredIn : Tables → ℕ → ℕ → ℕ → List ℕ → Tables
+abbrev pub enteredIn : Tables → ℕ → ℕ → ℕ → Code → Tables
 enteredIn T count position t p =
-    withTaking T (set (T .held) 0 (count + 1)) (set (T .timestamps) count t) (entered count position (T .order)) (set (T .lengths) count (length p / 8)) (copied p (256 * count) (T .programs))
+    withTaking T (set (T .held) 0 (count + 1)) (set (T .timestamps) count t) (entered count position (T .order)) (set (T .lengths) count (length (p .bytes) / 8)) (copied (p .bytes) (256 * count) (T .programs)) (set (T .versions) count (p .version))
 
-module _ (n : ℕ) (c : Cabinet) (s : Sound n c) (t : ℕ) (p : List ℕ) (room : length (c .changes) < n) (short : length p ≤ 256) (free : find t (historyOf c) ≡ none) (position : ℕ) (within : position ≤ length (c .changes)) (split : Split t (historyOf c) position) where
+module _ (n : ℕ) (c : Cabinet) (s : Sound n c) (t : ℕ) (p : Code) (room : length (c .changes) < n) (short : length (p .bytes) ≤ 256) (free : find t (historyOf c) ≡ none) (position : ℕ) (within : position ≤ length (c .changes)) (split : Split t (historyOf c) position) where
   order-added : entered (length (c .changes)) position (pad n 0 (c .order)) ≡ pad n 0 (add t p c .order)
   order-added =
       let counted = s .placed .counted in
@@ -67,12 +68,13 @@ module _ (n : ℕ) (c : Cabinet) (s : Sound n c) (t : ℕ) (p : List ℕ) (room 
       let timestamps = sym (column-append n 0 timestamp (c .changes) new room) in
       let status = column-more n 0 (λ d. statusNumber (status d)) (c .changes) new refl refl room in
       let withdrawn = column-more n 0 (λ d. flagNumber (withdrawn d)) (c .changes) new refl refl room in
-      let lengths = sym (column-append n 0 (λ d. length (program d) / 8) (c .changes) new room) in
-      let programs = blocks-more n 256 0 program (c .changes) new (programs-fit (c .changes) (s .each)) room short in
+      let lengths = sym (column-append n 0 (λ d. length (program d .bytes) / 8) (c .changes) new room) in
+      let programs = blocks-more n 256 0 (λ d. program d .bytes) (c .changes) new (programs-fit (c .changes) (s .each)) room short in
       let reads = column-more n 0 (λ d. length (lists d .reads)) (c .changes) new refl refl room in
       let writes = column-more n 0 (λ d. length (lists d .writes)) (c .changes) new refl refl room in
       let sources = blocks-none-more n 32 0 (λ d. settingsOf (lists d .reads)) (c .changes) new (settings-fit (λ d. lists d .reads) (c .changes) reads-few) room refl in
       let seen = blocks-none-more n 32 (pos 0) (λ d. valuesOf (lists d .reads)) (c .changes) new (values-fit (λ d. lists d .reads) (c .changes) reads-few) room refl in
       let targets = blocks-none-more n 32 0 (λ d. settingsOf (lists d .writes)) (c .changes) new (settings-fit (λ d. lists d .writes) (c .changes) writes-few) room refl in
       let written = blocks-none-more n 32 (pos 0) (λ d. valuesOf (lists d .writes)) (c .changes) new (values-fit (λ d. lists d .writes) (c .changes) writes-few) room refl in
-      λ j. tables (held j) (timestamps j) (order-added j) (status j) (withdrawn j) (lengths j) (programs j) (reads j) (writes j) (sources j) (seen j) (targets j) (written j) (c .view)
+      let versions = sym (column-append n 0 (λ d. program d .version) (c .changes) new room) in
+      λ j. tables (held j) (timestamps j) (order-added j) (status j) (withdrawn j) (lengths j) (programs j) (reads j) (writes j) (sources j) (seen j) (targets j) (written j) (c .view) (versions j)

@@ -6,13 +6,14 @@ use mathlib.Core.Option.{none, some}
 use Prim.Native.Nat.{ℕ, _*_, _+_, _/_, _<_, _≤_}
 use native.Mathlib.Omega.{arith}
 use lib.ListN.{length, getD, set}
+use Rattle.machine.specs.Instruction.{Code}
 use Rattle.machine.proofs.Cases.{by-test}
 use Rattle.model.specs.declared.Answer.{Answer}
 use Rattle.model.specs.declared.Answer.the-variants as answer
 use Rattle.model.specs.History.{Change}
 use Rattle.model.specs.Cabinet.{blank, find, add}
 use Rattle.model.specs.Tables.{Tables, withTaking, encode, heldCount, programAt, decode}
-use Rattle.model.specs.Refusals.{sameBytes}
+use Rattle.model.specs.Refusals.{sameProgram}
 use Rattle.model.specs.Package.{taking}
 use Rattle.model.specs.Calls.{reply, ifDone, itemCall}
 use Rattle.model.specs.Form.{Formed}
@@ -38,12 +39,13 @@ pub record HeldAt (T : Tables) (position : ℕ) : Type 0 where
   pub place : getD (T .order) position 0 < length (T .lengths)
   pub blocks : length (T .programs) ≡ 256 * length (T .lengths)
   pub short : getD (T .lengths) (getD (T .order) position 0) 0 ≤ 32
+  pub versioned : length (T .versions) ≡ length (T .lengths)
 
 -- a place is left
-pub record Room (n : ℕ) (T : Tables) (p : List ℕ) (count position : ℕ) : Type 0 where
+pub record Room (n : ℕ) (T : Tables) (p : Code) (count position : ℕ) : Type 0 where
   pub next : count < n
   pub positioned : position ≤ count
-  pub short : length p ≤ 256
+  pub short : length (p .bytes) ≤ 256
   pub slots : Lengths n T
 
 module _ {n : ℕ} {T : Tables} (g : Formed n T) {t count position : ℕ} (r : AtRank T t count position) where
@@ -71,15 +73,16 @@ module _ {n : ℕ} {T : Tables} (g : Formed n T) {t count position : ℕ} (r : A
         place = omega (arith, f .small, l .lengths);
         blocks = omega (arith, l .lengths, l .programs);
         short = f .programs (getD (T .order) position 0) h .short;
+        versioned = l .versions ∙ sym (l .lengths);
       }
 
-  module _ {p : List ℕ} (a : Acceptable t p) where
+  module _ {p : Code} (a : Acceptable t p) where
     pub room-left : (count ≡ length (T .timestamps) → ⊥) → Room n T p count position
     room-left f =
         record {
           next = omega (arith, f, r .counted, facts g .form .small, facts g .sizes .timestamps);
           positioned = omega (arith, r .ranked, rank-within (T .order) (T .timestamps) t count);
-          short = length-short p (a .sized);
+          short = length-short (p .bytes) (a .sized);
           slots = facts g .sizes;
         }
 
@@ -89,8 +92,8 @@ module _ {n : ℕ} {T : Tables} (g : Formed n T) {t count position : ℕ} (r : A
         let at = found e in
         let i = getD (T .order) position 0 in
         let same = ap (λ (U : Tables). programAt U i) (sym (facts g .laid)) ∙ program-back n (decode T) (facts g .sound) i (omega (arith, facts g .form .places position (at .0), held-changes g)) in
-        item-replied (taking t p) g (q ∙ ap (λ (bytes : List ℕ). comparedAnswer bytes p) same ∙ compared n (decode T) t p a (at .1))
-        (rw q (by-test (λ (x : Answer). T ≡ ifDone x (encode n (add t p (decode T))) T) (sameBytes (programAt T i) p) (λ s. refl) (λ s. refl)))
+        item-replied (taking t p) g (q ∙ ap (λ (held : Code). comparedAnswer held p) same ∙ compared n (decode T) t p a (at .1))
+        (rw q (by-test (λ (x : Answer). T ≡ ifDone x (encode n (add t p (decode T))) T) (sameProgram (programAt T i) p) (λ s. refl) (λ s. refl)))
 
     module _ (e : stampedAt (T .order) (T .timestamps) t count position ≡ false) where
       -- it is not, and no place is left
@@ -98,14 +101,14 @@ module _ {n : ℕ} {T : Tables} (g : Formed n T) {t count position : ℕ} (r : A
       full-replied q = item-replied (taking t p) g (none-left n (decode T) t p a (free e) (omega (arith, r .counted, held-changes g, facts g .sizes .timestamps))) refl
 
       -- one is left, and the change is stored there
-      pub done-replied : {order programs : List ℕ} → (count ≡ length (T .timestamps) → ⊥) → order ≡ entered count position (T .order) → programs ≡ copied p (256 * count) (T .programs) → reply answer.Done (withTaking T (set (T .held) 0 (count + 1)) (set (T .timestamps) count t) order (set (T .lengths) count (length p / 8)) programs) ≡ itemCall n T (taking t p)
+      pub done-replied : {order programs : List ℕ} → (count ≡ length (T .timestamps) → ⊥) → order ≡ entered count position (T .order) → programs ≡ copied (p .bytes) (256 * count) (T .programs) → reply answer.Done (withTaking T (set (T .held) 0 (count + 1)) (set (T .timestamps) count t) order (set (T .lengths) count (length (p .bytes) / 8)) programs (set (T .versions) count (p .version))) ≡ itemCall n T (taking t p)
       done-replied {order} {programs} f ordered programmed =
           let left = room-left f in
           let room : length (decode T .changes) < n = omega (arith, left .next, r .counted, held-changes g) in
           let within : position ≤ length (decode T .changes) = omega (arith, left .positioned, r .counted, held-changes g) in
           let split = rw (← r .counted, ← r .ranked) at (rank-splits g t) in
           item-replied (taking t p) g (place-left n (decode T) t p a (free e) room)
-          ((λ j. withTaking T (set (T .held) 0 (count + 1)) (set (T .timestamps) count t) (ordered j) (set (T .lengths) count (length p / 8)) (programmed j))
+          ((λ j. withTaking T (set (T .held) 0 (count + 1)) (set (T .timestamps) count t) (ordered j) (set (T .lengths) count (length (p .bytes) / 8)) (programmed j) (set (T .versions) count (p .version)))
           ∙ ap (λ (m : ℕ). enteredIn T m position t p) (r .counted ∙ sym (held-changes g))
           ∙ subst (λ (U : Tables). enteredIn U (length (decode T .changes)) position t p ≡ encode n (add t p (decode T))) (facts g .laid)
           (added n (decode T) (facts g .sound) t p room (left .short) (free e) position within split))

@@ -4,17 +4,18 @@ use mathlib.Core.List.{List, [], _∷_, _++_}
 use Prim.Native.Nat.{ℕ, _+_}
 use lib.ListN.{length, take, drop}
 use lib.Seq.{slice}
+use Rattle.machine.specs.Instruction.{Code}
 use Rattle.model.specs.declared.Answer.{Answer}
 use Rattle.model.specs.declared.Answer.the-variants as answer
-use Rattle.model.specs.Refusals.{Test, noTimestamp, wrongProgramLength, malformed, sameBytes}
+use Rattle.model.specs.Refusals.{Test, noTimestamp, wrongProgramLength, noVersion, malformed, sameProgram}
 
--- refusals 4, 6 and 7, which the timestamp and the program decide
-abbrev pub argumentTests : ℕ → List ℕ → List Test
-argumentTests t p = noTimestamp t ∷ wrongProgramLength p ∷ malformed p ∷ []
+-- refusals 4, 6, 13 and 7, which the timestamp and the program decide
+abbrev pub argumentTests : ℕ → Code → List Test
+argumentTests t p = noTimestamp t ∷ wrongProgramLength p ∷ noVersion p ∷ malformed p ∷ []
 
 -- the answer to a program whose timestamp is held with some program: the same, or refusal 8
-abbrev pub comparedAnswer : List ℕ → List ℕ → Answer
-comparedAnswer program p = cond (sameBytes program p) answer.Held (answer.Refused 8)
+abbrev pub comparedAnswer : Code → Code → Answer
+comparedAnswer program p = cond (sameProgram program p) answer.Held (answer.Refused 8)
 
 -- the place of number count entered at a position of the first count entries of the order list: those from there on move up by one
 abbrev pub entered : ℕ → ℕ → List ℕ → List ℕ

@@ -10,16 +10,17 @@ ghost use mathlib.Core.Path.{_≡_};
 ghost use Prim.Native.Nat.{_+_, _*_, _<_, _≤_};
 ghost use lib.ListN.{length, getD};
 ghost use Rattle.model.specs.declared.Answer.the-variants as answer;
-ghost use Rattle.model.specs.Tables.{programIn, withTaking};
+ghost use Rattle.machine.specs.Instruction.{code};
+ghost use Rattle.model.specs.Tables.{codeIn, withTaking};
 ghost use Rattle.model.specs.Refusals.{sameBytes};
 ghost use Rattle.model.specs.Package.{taking};
 ghost use Rattle.tables.specs.Parts.{PartFormed, ItemAnswered};
 ghost use Rattle.model.specs.Refusals.{firstOf};
 ghost use Rattle.taking.specs.Taking.{argumentTests, comparedAnswer, entered, copied};
 
-// The refusal of a timestamp and a program by themselves: 4, 6 or 7, or 0 where there is none.
-fn refusal_of(timestamp: u64, program: &[u8]) -> u8
-    ensures { λ r. ⌜ r ≡ firstOf (argumentTests timestamp (now (program .entry))) ⌝ }
+// The refusal of a timestamp, a version and a program by themselves: 4, 6, 13 or 7, or 0 where there is none.
+fn refusal_of(timestamp: u64, version: u16, program: &[u8]) -> u8
+    ensures { λ r. ⌜ r ≡ firstOf (argumentTests timestamp (code version (now (program .entry)))) ⌝ }
 {
     if !is_timestamp(timestamp) {
         return 4;
@@ -27,13 +28,16 @@ fn refusal_of(timestamp: u64, program: &[u8]) -> u8
     if !length_fits(program) {
         return 6;
     }
+    if 1 < version {
+        return 13;
+    }
     if !well_formed(program) {
         return 7;
     }
     0
 }
 
-// Whether two programs are the same bytes.
+// Whether two lists are the same bytes.
 fn same_bytes(a: &[u8], b: &[u8]) -> bool
     ensures { λ r. ⌜ r ≡ sameBytes (now (a .entry)) (now (b .entry)) ⌝ }
 {
@@ -50,14 +54,25 @@ fn same_bytes(a: &[u8], b: &[u8]) -> bool
     true
 }
 
-// The answer to a program whose timestamp is held at a place: already held there, or refusal 8.
-fn compare(place: usize, lengths: &[u16], programs: &[u8], program: &[u8]) -> Answer
-    requires { ⌜ (place < length (now lengths)) × (length (now programs) ≡ 256 * length (now lengths)) × (getD (now lengths) place 0 ≤ 32) ⌝ }
-    ensures { λ r. ⌜ r ≡ comparedAnswer (programIn (now (lengths .entry)) (now (programs .entry)) place) (now (program .entry)) ⌝ }
+// The answer to a program of a version whose timestamp is held at a place: already held there, or refusal 8.
+fn compare(
+    place: usize,
+    lengths: &[u16],
+    programs: &[u8],
+    versions: &[u16],
+    version: u16,
+    program: &[u8],
+) -> Answer
+    requires { ⌜ (place < length (now lengths)) × (length (now programs) ≡ 256 * length (now lengths)) × (getD (now lengths) place 0 ≤ 32) × (length (now versions) ≡ length (now lengths)) ⌝ }
+    ensures { λ r. ⌜
+        r
+        ≡ comparedAnswer (codeIn (now (lengths .entry)) (now (programs .entry)) (now (versions .entry)) place)
+        (code version (now (program .entry)))
+        ⌝ }
 {
     let start = 256 * place;
     let end = start + 8 * (lengths[place] as usize);
-    if same_bytes(&programs[start..end], program) {
+    if (versions[place] == version) & same_bytes(&programs[start..end], program) {
         return Answer::Held;
     }
     Answer::Refused(8)
@@ -95,18 +110,20 @@ pub fn take_item(
     order: &mut [u16],
     lengths: &mut [u16],
     programs: &mut [u8],
+    versions: &mut [u16],
     timestamp: u64,
+    version: u16,
     program: &[u8],
 ) -> Answer
-    requires { ⌜ PartFormed (λ T. withTaking T (now held) (now timestamps) (now order) (now lengths) (now programs)) ⌝ }
+    requires { ⌜ PartFormed (λ T. withTaking T (now held) (now timestamps) (now order) (now lengths) (now programs) (now versions)) ⌝ }
     ensures { λ r. ⌜
         ItemAnswered
-        (λ T. withTaking T (now (held .entry)) (now (timestamps .entry)) (now (order .entry)) (now (lengths .entry)) (now (programs .entry)))
-        (λ T. withTaking T (now (held .exit)) (now (timestamps .exit)) (now (order .exit)) (now (lengths .exit)) (now (programs .exit)))
-        (taking timestamp (now (program .entry))) r
+        (λ T. withTaking T (now (held .entry)) (now (timestamps .entry)) (now (order .entry)) (now (lengths .entry)) (now (programs .entry)) (now (versions .entry)))
+        (λ T. withTaking T (now (held .exit)) (now (timestamps .exit)) (now (order .exit)) (now (lengths .exit)) (now (programs .exit)) (now (versions .exit)))
+        (taking timestamp (code version (now (program .entry)))) r
         ⌝ }
 {
-    let refusal = refusal_of(timestamp, program);
+    let refusal = refusal_of(timestamp, version, program);
     if refusal != 0 {
         return Answer::Refused(refusal);
     }
@@ -114,7 +131,7 @@ pub fn take_item(
     let position = rank(timestamp, count, order, timestamps);
     if stamped_at(timestamp, position, count, order, timestamps) {
         let place = order[position] as usize;
-        return compare(place, lengths, programs, program);
+        return compare(place, lengths, programs, versions, version, program);
     }
     if count == timestamps.len() {
         return Answer::Refused(9);
@@ -122,6 +139,7 @@ pub fn take_item(
     timestamps[count] = timestamp;
     enter_next(position, count, order);
     lengths[count] = (program.len() / 8) as u16;
+    versions[count] = version;
     copy_in(program, 256 * count, programs);
     held[0] = (count + 1) as u16;
     Answer::Done

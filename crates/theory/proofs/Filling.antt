@@ -5,10 +5,11 @@ use mathlib.Core.List.{List, [], _∷_, _++_, map, append-nil}
 use mathlib.Core.Option.{Option, none, some}
 use Prim.Native.Nat.{ℕ, _+_, _≤_, _<_}
 use native.Mathlib.Omega.{arith}
-use borrow.Author.Tests.{lt-ltb, le-ltb, lt-leb, eq-eqb, ne-eqb}
+use borrow.Author.Tests.{lt-ltb, le-ltb, le-leb, lt-leb, eq-eqb, ne-eqb}
 use lib.Dec.{eqb}
 use lib.ListN.{length, replicate, length-append, length-map}
 use lib.Seq.{append-snoc}
+use Rattle.machine.specs.Instruction.{Code}
 use Rattle.machine.specs.Form.{lengthFits, wellFormed}
 use Rattle.machine.proofs.Cases.{of-choice, impossible}
 use Rattle.model.specs.declared.Answer.{Answer}
@@ -25,21 +26,25 @@ use Rattle.model.proofs.Order.{changesAt-length}
 
 -- ---- books
 
+-- a program can be held: its length, its version and its form are right
+abbrev Holdable : Code → Type 0
+Holdable p = (lengthFits (p .bytes) ≡ true) × (p .version ≤ 1) × (wellFormed (p .bytes) ≡ true)
+
 -- timestamps rise above a bound, and every program can be held
 abbrev pub SoundBook : ℕ → Book → Type 0
 SoundBook a [] = Unit {0}
-SoundBook a (booked t p w ∷ book) = (a < t) × (t < infinity) × (lengthFits p ≡ true) × (wellFormed p ≡ true) × SoundBook t book
+SoundBook a (booked t p w ∷ book) = (a < t) × (t < infinity) × Holdable p × SoundBook t book
 
 pub sound-book : (a : ℕ) (h : History) → Rising a h → AllSound h → SoundBook a (bookOf h)
 sound-book a [] r k = tt
-sound-book a (change t p s w l ∷ h) r k = (r .0, r .1, k .0 .sized, k .0 .formed, sound-book t h (r .2) (k .1))
+sound-book a (change t p s w l ∷ h) r k = (r .0, r .1, (k .0 .sized, k .0 .versioned, k .0 .formed), sound-book t h (r .2) (k .1))
 
 -- timestamps are at most a bound
 abbrev UpTo : ℕ → Book → Type 0
 UpTo a [] = Unit {0}
 UpTo a (b ∷ book) = (bookedAt b ≤ a) × UpTo a book
 
-up-to-next : (a t : ℕ) (p : List ℕ) (w : Bool) (book : Book) → a < t → UpTo a book → UpTo t (book ++ (booked t p w ∷ []))
+up-to-next : (a t : ℕ) (p : Code) (w : Bool) (book : Book) → a < t → UpTo a book → UpTo t (book ++ (booked t p w ∷ []))
 up-to-next a t p w [] h u = (omega arith, tt)
 up-to-next a t p w (b ∷ book) h u = (omega (arith, u .0), up-to-next a t p w book h (u .1))
 
@@ -59,7 +64,7 @@ unmarked (booked t p w ∷ book) = booked t p false ∷ unmarked book
 
 below-not-booked : (t a : ℕ) (book : Book) → t ≤ a → SoundBook a book → NotBooked t (unmarked book)
 below-not-booked t a [] h s = tt
-below-not-booked t a (booked u p w ∷ book) h s = (λ e. omega (arith, s .0), below-not-booked t u book (omega (arith, s .0)) (s .4))
+below-not-booked t a (booked u p w ∷ book) h s = (λ e. omega (arith, s .0), below-not-booked t u book (omega (arith, s .0)) (s .3))
 
 -- ---- the mark of a timestamp
 
@@ -79,13 +84,13 @@ mark-none : (t : ℕ) (book : Book) → NotBooked t book → markOf t book ≡ n
 mark-none t [] n = refl
 mark-none t (booked u p w ∷ book) n = rw (ne-eqb u t (n .0)) (mark-none t book (n .1))
 
-mark-there : (t : ℕ) (p : List ℕ) (w : Bool) (book rest : Book) → NotBooked t book → markOf t (book ++ booked t p w ∷ rest) ≡ some w
+mark-there : (t : ℕ) (p : Code) (w : Bool) (book rest : Book) → NotBooked t book → markOf t (book ++ booked t p w ∷ rest) ≡ some w
 mark-there t p w [] rest n = rw (eq-eqb t t refl)
 mark-there t p w (booked u q v ∷ book) rest n = rw (ne-eqb u t (n .0)) (mark-there t p w book rest (n .1))
 
 -- ---- entered and struck
 
-enter-last : (a t : ℕ) (p : List ℕ) (book : Book) → a < t → UpTo a book → enter t p book ≡ book ++ (booked t p false ∷ [])
+enter-last : (a t : ℕ) (p : Code) (book : Book) → a < t → UpTo a book → enter t p book ≡ book ++ (booked t p false ∷ [])
 enter-last a t p [] h u = refl
 enter-last a t p (booked v q w ∷ book) h u = rw (le-ltb t v (omega (arith, u .0))) (ap (booked v q w ∷_) (enter-last a t p book h (u .1)))
 
@@ -93,7 +98,7 @@ strike-other : (t : ℕ) (book : Book) → NotBooked t book → strike t book �
 strike-other t [] n = refl
 strike-other t (booked u q w ∷ book) n = rw (ne-eqb u t (n .0)) (ap (booked u q w ∷_) (strike-other t book (n .1)))
 
-strike-there : (t : ℕ) (p : List ℕ) (w : Bool) (book rest : Book) → NotBooked t book → NotBooked t rest → strike t (book ++ booked t p w ∷ rest) ≡ book ++ booked t p true ∷ rest
+strike-there : (t : ℕ) (p : Code) (w : Bool) (book rest : Book) → NotBooked t book → NotBooked t rest → strike t (book ++ booked t p w ∷ rest) ≡ book ++ booked t p true ∷ rest
 strike-there t p w [] rest n m = rw (eq-eqb t t refl) (ap (booked t p true ∷_) (strike-other t rest m))
 strike-there t p w (booked u q v ∷ book) rest n m = rw (ne-eqb u t (n .0)) (ap (booked u q v ∷_) (strike-there t p w book rest (n .1) m))
 
@@ -101,7 +106,7 @@ strike-there t p w (booked u q v ∷ book) rest n m = rw (ne-eqb u t (n .0)) (ap
 
 -- by the book of what is held and the capacity
 abbrev Accepts : ℕ → Book → Item → Type 0
-Accepts n book (taking t p) = (0 < t) × (t < infinity) × (lengthFits p ≡ true) × (wellFormed p ≡ true) × (markOf t book ≡ none) × (length book < n)
+Accepts n book (taking t p) = (0 < t) × (t < infinity) × Holdable p × (markOf t book ≡ none) × (length book < n)
 Accepts n book (withdrawing t) = (0 < t) × (t < infinity) × (markOf t book ≡ some false)
 
 -- one after the other, to a last book
@@ -114,8 +119,8 @@ takings-fill n a book [] more last s u h f = rw append-nil at f
 takings-fill n a book (booked t p w ∷ rest) more last s u h f =
     let next = book ++ (booked t p false ∷ []) in
     let fits : length next + length rest ≤ n = omega (arith, h, length-append book (booked t p false ∷ [])) in
-    let rest-fills = takings-fill n t next rest more last (s .4) (up-to-next a t p false book (s .0) u) fits (rw (← append-snoc book (booked t p false) (unmarked rest)) at f) in (
-      (omega (arith, s .0), s .1, s .2, s .3, mark-none t book (above-not-booked a t book (s .0) u), omega (arith, h)),
+    let rest-fills = takings-fill n t next rest more last (s .3) (up-to-next a t p false book (s .0) u) fits (rw (← append-snoc book (booked t p false) (unmarked rest)) at f) in (
+      (omega (arith, s .0), s .1, s .2, mark-none t book (above-not-booked a t book (s .0) u), omega (arith, h)),
       subst (λ (b : Book). Fills n b (takings rest ++ more) last) (sym (enter-last a t p book (s .0) u)) rest-fills,
     )
 
@@ -123,13 +128,13 @@ withdrawals-fill : (n a : ℕ) (book rest : Book) → SoundBook a rest → UpTo 
 withdrawals-fill n a book [] s u = refl
 withdrawals-fill n a book (booked t p false ∷ rest) s u =
     rw (append-snoc book (booked t p false) (unmarked rest), append-snoc book (booked t p false) rest)
-    at (withdrawals-fill n t (book ++ (booked t p false ∷ [])) rest (s .4) (up-to-next a t p false book (s .0) u))
+    at (withdrawals-fill n t (book ++ (booked t p false ∷ [])) rest (s .3) (up-to-next a t p false book (s .0) u))
 withdrawals-fill n a book (booked t p true ∷ rest) s u =
     let before = above-not-booked a t book (s .0) u in
-    let struck = strike-there t p false book (unmarked rest) before (below-not-booked t t rest (omega arith) (s .4)) in
+    let struck = strike-there t p false book (unmarked rest) before (below-not-booked t t rest (omega arith) (s .3)) in
     let rest-fills =
     rw (append-snoc book (booked t p true) (unmarked rest), append-snoc book (booked t p true) rest)
-    at (withdrawals-fill n t (book ++ (booked t p true ∷ [])) rest (s .4) (up-to-next a t p true book (s .0) u)) in (
+    at (withdrawals-fill n t (book ++ (booked t p true ∷ [])) rest (s .3) (up-to-next a t p true book (s .0) u)) in (
       (omega (arith, s .0), s .1, mark-there t p false book (unmarked rest) before),
       subst (λ (b : Book). Fills n b (withdrawals rest) (book ++ booked t p true ∷ rest)) (sym struck) rest-fills,
     )
@@ -158,9 +163,9 @@ module _ {n : ℕ} {c : Cabinet} (s : Sound n c) where
 
   accepted : (i : Item) → Accepts n (bookOf (historyOf c)) i → itemAnswer n c i ≡ Done
   unfolding itemAnswer
-  accepted (taking t p) (above, below, sized, formed, free, room) =
+  accepted (taking t p) (above, below, (sized, versioned, formed), free, room) =
       let none-found : find t (historyOf c) ≡ none = unheld (find t (historyOf c)) (mark-found t (historyOf c) ∙ free) in
-      rw (lt-ltb 0 t above, lt-ltb t infinity below, sized, formed, none-found, lt-leb n (length (c .changes)) (omega (arith, room, as-many)))
+      rw (lt-ltb 0 t above, lt-ltb t infinity below, sized, le-leb (p .version) 1 versioned, formed, none-found, lt-leb n (length (c .changes)) (omega (arith, room, as-many)))
   accepted (withdrawing t) (above, below, marked) =
       let (u, found, stands) = not-withdrawn (find t (historyOf c)) (mark-found t (historyOf c) ∙ marked) in
       rw (lt-ltb 0 t above, lt-ltb t infinity below, found, stands)

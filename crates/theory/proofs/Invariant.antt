@@ -6,6 +6,7 @@ use mathlib.Core.Option.{none, some}
 use Prim.Native.Nat.{ℕ}
 use lib.IntN.{ℤ}
 use Rattle.machine.specs.Settings.{Environment}
+use Rattle.machine.specs.Instruction.{Code}
 use Rattle.machine.specs.Run.{run}
 use Rattle.model.specs.History.{start, New, Valid, Invalid, Lists, empty, runLists, Change, change, timestamp, History, afterChange, afterAll, allSettings}
 use Rattle.model.specs.Figure.{Event}
@@ -24,7 +25,7 @@ AllConsistent env [] = Unit {0}
 AllConsistent env (c ∷ h) = Consistent env c × AllConsistent (afterChange c env) h
 
 -- the lists of a change are those that its last run put there, on some settings
-abbrev pub LastRan : List Event → ℕ → List ℕ → Lists → Type 0
+abbrev pub LastRan : List Event → ℕ → Code → Lists → Type 0
 LastRan events t p l = (env : Environment) × (lastRan events t ≡ some (run env p)) × (runLists env p ≡ l)
 
 -- a New change has not run; the lists of a change that is neither New nor withdrawn are those of its last run

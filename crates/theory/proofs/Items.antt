@@ -6,6 +6,7 @@ use Prim.Native.Nat.{ℕ}
 use lib.Dec.{eqb, ltb}
 use lib.IntN.{ℤ}
 use Rattle.machine.specs.Settings.{Environment, lookup, after}
+use Rattle.machine.specs.Instruction.{Code}
 use Rattle.machine.proofs.Cases.{by-test}
 use Rattle.model.specs.History.{start, New, Valid, Invalid, Change, change, timestamp, History, afterChange, afterAll}
 use Rattle.model.specs.Walk.{insert}
@@ -23,7 +24,7 @@ not-found : (t : ℕ) (h : History) → find t h ≡ none → NotIn t (map times
 not-found t [] q = tt
 not-found t (c ∷ h) q = let rest = find-rest t c h q in ((λ e. rest .0 (sym e)), not-found t h (rest .1))
 
-module _ (t : ℕ) (p : List ℕ) where
+module _ (t : ℕ) (p : Code) where
   insert-consistent : (env : Environment) (h : History) → AllConsistent env h → AllConsistent env (insert t p h)
   unfolding lookup
   insert-consistent env [] k = (refl, tt)

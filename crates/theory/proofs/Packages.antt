@@ -42,12 +42,12 @@ use Rattle.theory.proofs.Filling.{SoundBook, sound-book, Fills, book-fi
 
 takings-packable : (a : ℕ) (book : Book) → SoundBook a book → AllPackable (takings book)
 takings-packable a [] s = tt
-takings-packable a (booked t p w ∷ book) s = ((omega (arith, s .1), s .2), takings-packable t book (s .4))
+takings-packable a (booked t p w ∷ book) s = ((omega (arith, s .1), s .2 .0, s .2 .1), takings-packable t book (s .3))
 
 withdrawals-packable : (a : ℕ) (book : Book) → SoundBook a book → AllPackable (withdrawals book)
 withdrawals-packable a [] s = tt
-withdrawals-packable a (booked t p true ∷ book) s = (omega (arith, s .1), withdrawals-packable t book (s .4))
-withdrawals-packable a (booked t p false ∷ book) s = withdrawals-packable t book (s .4)
+withdrawals-packable a (booked t p true ∷ book) s = (omega (arith, s .1), withdrawals-packable t book (s .3))
+withdrawals-packable a (booked t p false ∷ book) s = withdrawals-packable t book (s .3)
 
 both-packable : (items more : List Item) → AllPackable items → AllPackable more → AllPackable (items ++ more)
 both-packable [] more a b = b

@@ -7,10 +7,11 @@ use native.Mathlib.Omega.{arith}
 use borrow.Author.Tests.{le-leb, eq-eqb}
 use lib.ListN.{length, getD, drop, length-append}
 use lib.Seq.{getD-drop, drop-drop, take-at, drop-at}
+use Rattle.machine.specs.Instruction.{code}
 use Rattle.machine.specs.Form.{lengthFits}
 use Rattle.machine.proofs.Form.{below-all, length-short, length-eights}
 use Rattle.model.specs.History.{tabulateFrom}
-use Rattle.model.specs.Package.{Item, taking, withdrawing, numberAt, entryCount, entryAt, stampOf, kindOf, countOf, entryFits, countBefore, bodyAt, layoutFits, itemAt, itemsOf, numberBytes, entryBytes, itemEntry, itemBody, joined, packageOf}
+use Rattle.model.specs.Package.{Item, taking, withdrawing, numberAt, entryCount, entryAt, stampOf, kindOf, countOf, versionOf, entryFits, countBefore, bodyAt, layoutFits, itemAt, itemsOf, numberBytes, entryBytes, itemEntry, itemBody, joined, packageOf}
 use Rattle.model.proofs.Packing.{length-entries, length-package}
 
 -- ---- numbers
@@ -42,28 +43,28 @@ number-read (suc k) x bytes rest i e h =
 -- ---- entries
 
 -- an entry is read where it is laid out
-record EntryRead (bytes : List ℕ) (j t kind count : ℕ) : Type 0 where
+record EntryRead (bytes : List ℕ) (j t kind count version : ℕ) : Type 0 where
   stamp : stampOf bytes j ≡ t
   kind-read : kindOf bytes j ≡ kind
   count-read : countOf bytes j ≡ count
-  first-zero : getD bytes (entryAt j + 10) 0 ≡ 0
-  second-zero : getD bytes (entryAt j + 11) 0 ≡ 0
+  version-read : versionOf bytes j ≡ version
+  zero-read : getD bytes (entryAt j + 11) 0 ≡ 0
 
-entry-read : (bytes rest : List ℕ) (j t kind count : ℕ) → drop (entryAt j) bytes ≡ entryBytes t kind count ++ rest → t < limit 8 → EntryRead bytes j t kind count
-entry-read bytes rest j t kind count e h =
+entry-read : (bytes rest : List ℕ) (j t kind count version : ℕ) → drop (entryAt j) bytes ≡ entryBytes t kind count version ++ rest → t < limit 8 → EntryRead bytes j t kind count version
+entry-read bytes rest j t kind count version e h =
     record {
-      stamp = number-read 8 t bytes (kind ∷ count ∷ 0 ∷ 0 ∷ rest) (entryAt j) e h;
+      stamp = number-read 8 t bytes (kind ∷ count ∷ version ∷ 0 ∷ rest) (entryAt j) e h;
       kind-read = part-at bytes (entryAt j) e 8;
       count-read = part-at bytes (entryAt j) e 9;
-      first-zero = part-at bytes (entryAt j) e 10;
-      second-zero = part-at bytes (entryAt j) e 11;
+      version-read = part-at bytes (entryAt j) e 10;
+      zero-read = part-at bytes (entryAt j) e 11;
     }
 
 -- ---- items
 
--- an item whose timestamp has 8 bytes, and whose program is of at most 32 instructions
+-- an item whose timestamp has 8 bytes, and whose program is of at most 32 instructions and of a version
 abbrev pub Packable : Item → Type 0
-Packable (taking t p) = (t < 18446744073709551616) × (lengthFits p ≡ true)
+Packable (taking t p) = (t < 18446744073709551616) × (lengthFits (p .bytes) ≡ true) × (p .version ≤ 1)
 Packable (withdrawing t) = t < 18446744073709551616
 
 abbrev pub AllPackable : List Item → Type 0
@@ -95,20 +96,20 @@ left-next bytes bodies j i items count size l =
     }
 
 item-read : (bytes bodies : List ℕ) (j : ℕ) (i : Item) (items : List Item) → Packable i → Left bytes bodies j (i ∷ items) → ItemRead bytes bodies j i items
-item-read bytes bodies j (taking t p) items (h, sized) l =
-    let r = entry-read bytes (joined itemEntry items ++ bodies) j t 0 (length p / 8) (l .entries) h in
-    let count : 8 * countOf bytes j ≡ length p = ap (8 *_) (r .count-read) ∙ length-eights p sized in
-    let few : length p / 8 ≤ 32 = omega (arith, length-short p sized) in
+item-read bytes bodies j (taking t p) items (h, sized, versioned) l =
+    let r = entry-read bytes (joined itemEntry items ++ bodies) j t 0 (length (p .bytes) / 8) (p .version) (l .entries) h in
+    let count : 8 * countOf bytes j ≡ length (p .bytes) = ap (8 *_) (r .count-read) ∙ length-eights (p .bytes) sized in
+    let few : length (p .bytes) / 8 ≤ 32 = omega (arith, length-short (p .bytes) sized) in
     record {
-      read = rw (r .kind-read, r .stamp, count, l .rest) (ap (taking t) (take-at p (joined itemBody items) (length p) refl));
-      fits = rw (r .kind-read, r .count-read, r .first-zero, r .second-zero, le-leb (length p / 8) 32 few);
+      read = rw (r .kind-read, r .stamp, r .version-read, count, l .rest) (ap (λ (b : List ℕ). taking t (code (p .version) b)) (take-at (p .bytes) (joined itemBody items) (length (p .bytes)) refl));
+      fits = rw (r .kind-read, r .count-read, r .version-read, r .zero-read, le-leb (length (p .bytes) / 8) 32 few, le-leb (p .version) 1 versioned);
       left = left-next bytes bodies j (taking t p) items count refl l;
     }
 item-read bytes bodies j (withdrawing t) items h l =
-    let r = entry-read bytes (joined itemEntry items ++ bodies) j t 1 0 (l .entries) h in
+    let r = entry-read bytes (joined itemEntry items ++ bodies) j t 1 0 0 (l .entries) h in
     record {
       read = rw (r .kind-read, r .stamp);
-      fits = rw (r .kind-read, r .count-read, r .first-zero, r .second-zero);
+      fits = rw (r .kind-read, r .count-read, r .version-read, r .zero-read);
       left = left-next bytes bodies j (withdrawing t) items (omega (arith, r .count-read)) refl l;
     }
 

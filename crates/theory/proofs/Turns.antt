@@ -8,6 +8,7 @@ use native.Mathlib.Omega.{arith}
 use borrow.Author.Tests.{lt-ltb, le-ltb}
 use lib.IntN.{ℤ}
 use Rattle.machine.specs.Settings.{Environment, valueIn, Holds, after}
+use Rattle.machine.specs.Instruction.{Code}
 use Rattle.machine.specs.Run.{Outcome, run}
 use Rattle.machine.proofs.Cases.{by-test, impossible, true-is-not-false}
 use Rattle.model.specs.History.{start, Status, New, Valid, Invalid, Lists, empty, runLists, Change, change, timestamp, History, afterAll, allSettings, allHold}
@@ -26,7 +27,7 @@ use Rattle.theory.proofs.Marking.{differs-agree, marked-consistent, mar
 
 -- ---- the turns so far
 
-other-last-ran : (events : List Event) (e : Event) (t : ℕ) (p : List ℕ) (l : Lists) → ¬ (eventTimestamp e ≡ t) → LastRan events t p l → LastRan (events ++ (e ∷ [])) t p l
+other-last-ran : (events : List Event) (e : Event) (t : ℕ) (p : Code) (l : Lists) → ¬ (eventTimestamp e ≡ t) → LastRan events t p l → LastRan (events ++ (e ∷ [])) t p l
 other-last-ran events e t p l n (env, last, lists) = (env, last-other events e t n ∙ last, lists)
 
 other-traced : (events : List Event) (e : Event) (c : Change) → ¬ (eventTimestamp e ≡ timestamp c) → Traced events c → Traced (events ++ (e ∷ [])) c
@@ -56,18 +57,18 @@ from-start book earlier (stood t) n = tt
 from-start book earlier (cleared t) n = tt
 
 -- a Valid change has the fresh run's lists
-pub valid-fresh : (env : Environment) (t : ℕ) (p : List ℕ) (w : Bool) (l : Lists) → Consistent env (change t p Valid w l) → freshLists (booked t p w) env ≡ l
+pub valid-fresh : (env : Environment) (t : ℕ) (p : Code) (w : Bool) (l : Lists) → Consistent env (change t p Valid w l) → freshLists (booked t p w) env ≡ l
 valid-fresh env t p true l k = sym k
 valid-fresh env t p false l k = k
 
 -- what holds of the turns from the settings after a Valid change holds from those before it
-passed-not-in-vain : (env : Environment) (t : ℕ) (p : List ℕ) (w : Bool) (l : Lists) (book : Book) (events : List Event) (e : Event) → Consistent env (change t p Valid w l) → t < eventTimestamp e → NotInVainFrom (after (l .writes) env) book events e → NotInVainFrom env (booked t p w ∷ book) events e
+passed-not-in-vain : (env : Environment) (t : ℕ) (p : Code) (w : Bool) (l : Lists) (book : Book) (events : List Event) (e : Event) → Consistent env (change t p Valid w l) → t < eventTimestamp e → NotInVainFrom (after (l .writes) env) book events e → NotInVainFrom env (booked t p w ∷ book) events e
 passed-not-in-vain env t p w l book events (ran u new) k q n = λ old r s. n old r (rw (lt-ltb t u q, valid-fresh env t p w l k) at s)
 passed-not-in-vain env t p w l book events (stood u) k q n = tt
 passed-not-in-vain env t p w l book events (cleared u) k q n = tt
 
 -- a run is not in vain where a value seen is no longer the setting's
-changed-not-in-vain : (env : Environment) (book : Book) (events : List Event) (t : ℕ) (p : List ℕ) (l : Lists) (new : Outcome) → LastRan events t p l → allHold (l .reads) env ≡ false → NotInVainFrom env (booked t p false ∷ book) events (ran t new)
+changed-not-in-vain : (env : Environment) (book : Book) (events : List Event) (t : ℕ) (p : Code) (l : Lists) (new : Outcome) → LastRan events t p l → allHold (l .reads) env ≡ false → NotInVainFrom env (booked t p false ∷ book) events (ran t new)
 changed-not-in-vain env book events t p l new (env', last, lists) f old r s =
     let same : old ≡ run env' p = cc in
     let reads : old .reads ≡ l .reads = ap (λ (o : Outcome). o .reads) same ∙ sym (runLists-reads env' p) ∙ ap (λ (m : Lists). m .reads) lists in
@@ -101,7 +102,7 @@ settle-viewed env view old new h v =
     (λ e. (rw v (value-allSettings (afterAll h before) x q)) ∙ agree-after live before later (differs-agree old new env) h x e))
     ∙ ap allSettings (sym (marked-after live h later))
 
-module _ (env : Environment) (view : List ℤ) (b : ℕ) (events : List Event) (t : ℕ) (p : List ℕ) (s : Status) (w : Bool) (l : Lists) (h : History) (k : AllConsistent env (change t p s w l ∷ h)) (v : view ≡ allSettings (afterAll h (after (l .writes) env))) (r : Rising b (change t p s w l ∷ h)) (tr : AllTraced events (change t p s w l ∷ h)) where
+module _ (env : Environment) (view : List ℤ) (b : ℕ) (events : List Event) (t : ℕ) (p : Code) (s : Status) (w : Bool) (l : Lists) (h : History) (k : AllConsistent env (change t p s w l ∷ h)) (v : view ≡ allSettings (afterAll h (after (l .writes) env))) (r : Rising b (change t p s w l ∷ h)) (tr : AllTraced events (change t p s w l ∷ h)) where
   settle-kept : (new : Lists) (e : Event) → eventTimestamp e ≡ t → Consistent env (change t p Valid w new) → Traced (events ++ (e ∷ [])) (change t p Valid w new) → NotInVainFrom env (bookOf (change t p s w l ∷ h)) events e → KeptStep env b events (change t p s w l ∷ h) (settle env view t p w l new h e)
   settle-kept new e q k' tr' f =
       record {

@@ -59,9 +59,9 @@ listed c = (timestamp c, lists c)
 pub record Drains (n : ℕ) (k : Ledger) : Type 0 where
   -- "The last call is a drain that is answered": with any 1,024 totals lent it answers done, leaves the tables that the fields below speak of, and the totals of its turns (document 02, R-5)
   pub answered : DrainAnswered n (k .tables)
-  -- "Held changes are those in the book": timestamp, program, withdrawn or not
+  -- "Held changes are those in the book": timestamp, program with its version, withdrawn or not
   pub booked : bookOf (historyOf (decode (drain n (k .tables) .tables))) ≡ k .book
-  -- "After the last drain the tables hold the book's timestamps and no others, each with the fresh run's lists, entry for entry in order"
+  -- "After the last drain the tables hold the book's timestamps and no others, each with the fresh run's lists, entry for entry in order"; document 02, R-6: "The drained state is that of running each change by its own version"
   pub fresh-lists : map listed (historyOf (decode (drain n (k .tables) .tables))) ≡ freshRun (k .book) start
   pub no-others : (i : ℕ) → i < heldCount (drain n (k .tables) .tables) → In i (decode (drain n (k .tables) .tables) .order)
   -- "each of the 1,024 entries of the view is that setting at the fresh run's end"

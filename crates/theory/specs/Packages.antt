@@ -55,7 +55,7 @@ pub record FilledWith (n : ℕ) (k : Ledger) (n' : ℕ) (U : Tables) (written an
   -- each drain is answered
   pub drained : DrainAnswered n' (takenInto n' U written answers .tables)
   pub neighbour-drained : DrainAnswered n (k .tables)
-  -- after them both have the same changes by rising timestamp: program, status, withdrawn or not, read list, seen values, write list
+  -- after them both have the same changes by rising timestamp: program with its version, status, withdrawn or not, read list, seen values, write list
   pub changes : historyOf (decode (drain n' (takenInto n' U written answers .tables) .tables)) ≡ historyOf (decode (drain n (k .tables) .tables))
   -- and the same value of every setting
   pub view : drain n' (takenInto n' U written answers .tables) .tables .view ≡ drain n (k .tables) .tables .view

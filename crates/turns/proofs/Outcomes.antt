@@ -1,5 +1,5 @@
 -- The turn of the change at a position of tables in form, outcome by outcome: it stood, or its lists were replaced.
-use mathlib.Core.Path.{_≡_, refl, sym, ap, ap₂, subst, _∙_}
+use mathlib.Core.Path.{_≡_, refl, sym, ap, ap₂, subst, subst⁻¹, _∙_}
 use mathlib.Core.Bool.{Bool, true, false, cond, not}
 use mathlib.Core.List.{List, [], _∷_, _++_}
 use mathlib.Core.Option.{some}
@@ -8,6 +8,7 @@ use native.Mathlib.Omega.{arith}
 use lib.IntN.{ℤ}
 use lib.ListN.{length, getD, set, take}
 use Rattle.machine.specs.Settings.{settingCount, Environment, Entry, valueIn, entries, after}
+use Rattle.machine.specs.Instruction.{Code, code}
 use Rattle.machine.specs.Run.{Outcome, run}
 use Rattle.machine.proofs.Cases.{impossible, true-is-not-false}
 use Rattle.run_record.specs.declared.Run.{Run}
@@ -171,7 +172,7 @@ module _ {T : Tables} (g : Formed (length (T .order)) T) (k : ℕ) (w : waitingI
             let values = put .wrote .values-put ∙ ap (λ (list : List ℤ). replacedZ place list (T .written)) wrote-values in
             let view = view-left in
             λ j.
-            tables (T .held) (T .timestamps) (T .order) (s j) (T .withdrawn) (T .lengths) (T .programs) (reads j) (writes j) (sources j) (seen j) (targets j) (values j) (view j)
+            tables (T .held) (T .timestamps) (T .order) (s j) (T .withdrawn) (T .lengths) (T .programs) (reads j) (writes j) (sources j) (seen j) (targets j) (values j) (view j) (T .versions)
 
         left-settled : left ≡ encode n (withHistory (decode T) (take k (historyIn T) ++ replacing ∷ markLive changes (later g k w)) viewOf)
         left-settled =
@@ -193,7 +194,7 @@ module _ {T : Tables} (g : Formed (length (T .order)) T) (k : ℕ) (w : waitingI
               (uses-turned g k (p .changed) changes agree held-here replacing viewOf u (p .settings) (p .marked) (p .settled-to) (next-sound g k w replacing (markLive changes (later g k w)) viewOf left-round left-settled))
 
   -- it was cleared or ran
-  module _ {a : Act} (d : a ≡ actIn g k w) (moves : a ≡ act.Stand → ⊥) {t : ℕ} (s : t ≡ getD (T .timestamps) place 0) {readers writers settled : List ℕ} (u : Uses (k + 1) T readers writers settled) {status' : List ℕ} {C' : Columns} {seen' written' view' : List ℤ} {settled' known' : List ℕ} {before' after' : List ℤ} {new : Run} (r : replacement.Replaced a new k (columnsOf T) (T .seen) (T .written) (T .lengths) (T .programs) readers writers (T .status) (T .view) status' C' seen' written' view' settled' known' before' after') {status'' : List ℕ} (q : status'' ≡ set status' place 1) where
+  module _ {a : Act} (d : a ≡ actIn g k w) (moves : a ≡ act.Stand → ⊥) {t : ℕ} (s : t ≡ getD (T .timestamps) place 0) {version : ℕ} (v : version ≡ getD (T .versions) place 0) {readers writers settled : List ℕ} (u : Uses (k + 1) T readers writers settled) {status' : List ℕ} {C' : Columns} {seen' written' view' : List ℤ} {settled' known' : List ℕ} {before' after' : List ℤ} {new : Run} (r : replacement.Replaced a version new k (columnsOf T) (T .seen) (T .written) (T .lengths) (T .programs) readers writers (T .status) (T .view) status' C' seen' written' view' settled' known' before' after') {status'' : List ℕ} (q : status'' ≡ set status' place 1) where
     abbrev pub leftTables : Tables
     leftTables = withTurn T status'' (C' .reads) (C' .writes) (C' .sources) seen' (C' .targets) written' view'
 
@@ -205,13 +206,13 @@ module _ {T : Tables} (g : Formed (length (T .order)) T) (k : ℕ) (w : waitingI
         l = newColumns new (r .arrays)
 
         short : length (programIn (T .lengths) (T .programs) place) ≤ 256
-        short = rw (program-here g k held-here) (program-size g k held-here)
+        short = subst⁻¹ (λ (p : Code). length (p .bytes) ≤ 256) (program-here g k held-here) (program-size g k held-here)
 
         fits : Fitting l
         fits = made-fits _ _ moves short (r .made)
 
-        same : run (valuesBelow (T .order) (T .writes) (T .targets) (T .written) k) (programIn (T .lengths) (T .programs) place) ≡ run env (program this)
-        same = ap₂ run upto (program-here g k held-here)
+        same : run (valuesBelow (T .order) (T .writes) (T .targets) (T .written) k) (code version (programIn (T .lengths) (T .programs) place)) ≡ run env (program this)
+        same = ap₂ run upto (ap (λ (x : ℕ). code x (programIn (T .lengths) (T .programs) place)) v ∙ program-here g k held-here)
 
         go : (b : Act) → a ≡ b → (reply (turns.answerBy a new (timestamp this)) leftTables ≡ turns.turned T) × turns.Going (k + 1) leftTables known' before' after' readers writers settled'
         go act.Clear e =

@@ -29,6 +29,7 @@ pub record Slots (T : Tables) (k : ℕ) : Type 0 where
   pub timestamps : getD (T .order) k 0 < length (T .timestamps)
   pub status : getD (T .order) k 0 < length (T .status)
   pub writes : getD (T .order) k 0 < length (T .writes)
+  pub versions : getD (T .order) k 0 < length (T .versions)
 
 module _ {n : ℕ} {T : Tables} (g : Formed n T) (k : ℕ) (h : k < heldCount T) where
   abbrev place : ℕ
@@ -58,6 +59,7 @@ module _ {n : ℕ} {T : Tables} (g : Formed n T) (k : ℕ) (h : k < heldCount T)
         timestamps = omega (arith, place-held, small, z .timestamps);
         status = omega (arith, place-held, small, z .status);
         writes = omega (arith, place-held, small, z .writes);
+        versions = omega (arith, place-held, small, z .versions);
       }
 
   pub decidable : Decidable k (T .order) (T .status) (T .withdrawn) (T .reads) (T .sources) (T .seen) (length (T .writes))

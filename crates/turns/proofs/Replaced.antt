@@ -8,6 +8,7 @@ use lib.IntN.{ℤ, pos}
 use lib.ListN.{length, getD, set, take, drop, length-set, length-map}
 use lib.Seq.{drop-cons, map-set-same}
 use Rattle.machine.specs.Settings.{Entry}
+use Rattle.machine.specs.Instruction.{Code}
 use Rattle.model.specs.History.{Change, timestamp, program, status, withdrawn, lists, History}
 use Rattle.model.specs.Cabinet.{Cabinet, blank, changesAt, historyOf, putAt, withHistory}
 use Rattle.model.specs.Tables.{statusNumber, flagNumber, pad, blocks, settingsOf, valuesOf, Tables, tables, withTurn, encode}
@@ -88,10 +89,10 @@ module _ (n : ℕ) (c : Cabinet) (s : Sound n c) (k : ℕ) (h : k < length (c .c
 
   module _ (r : Replaces new (getD (historyOf c) k blank)) (view : List ℤ) where
     -- a field that tells neither the status nor the lists
-    abbrev fieldOf : {B : Type 0} → (ℕ → List ℕ → Bool → B) → Change → B
+    abbrev fieldOf : {B : Type 0} → (ℕ → Code → Bool → B) → Change → B
     fieldOf g d = g (timestamp d) (program d) (withdrawn d)
 
-    map-same : {B : Type 0} (g : ℕ → List ℕ → Bool → B) → map (fieldOf g) now ≡ map (fieldOf g) (c .changes)
+    map-same : {B : Type 0} (g : ℕ → Code → Bool → B) → map (fieldOf g) now ≡ map (fieldOf g) (c .changes)
     map-same g = map-set-same (fieldOf g) (c .changes) place new blank ((rw (r .stamped, r .programmed, r .flagged)) ∙ ap (fieldOf g) old)
 
     laid-out : encode n (record { changes = now; order = c .order; view = view }) ≡ replacedTables (encode n c) k new view
@@ -103,16 +104,17 @@ module _ (n : ℕ) (c : Cabinet) (s : Sound n c) (k : ℕ) (h : k < length (c .c
         let timestamps = ap (pad n 0) (map-same (λ t p w. t)) in
         let statuses = column-set n 0 (λ d. statusNumber (status d)) (c .changes) place new held-place in
         let flags = ap (pad n 0) (map-same (λ t p w. flagNumber w)) in
-        let lengths = ap (pad n 0) (map-same (λ t p w. length p / 8)) in
-        let programs = blocks-same n 256 0 program now (c .changes) (map-same (λ t p w. p)) in
+        let lengths = ap (pad n 0) (map-same (λ t p w. length (p .bytes) / 8)) in
+        let programs = blocks-same n 256 0 (λ d. program d .bytes) now (c .changes) (map-same (λ t p w. p .bytes)) in
         let reads = column-set n 0 (λ d. length (lists d .reads)) (c .changes) place new held-place in
         let writes = column-set n 0 (λ d. length (lists d .writes)) (c .changes) place new held-place in
         let sources = settings-replaced n (λ d. lists d .reads) (c .changes) read place held-place new (r .reads-short) in
         let seen = values-replaced n (λ d. lists d .reads) (c .changes) read place held-place new (r .reads-short) in
         let targets = settings-replaced n (λ d. lists d .writes) (c .changes) wrote place held-place new (r .writes-short) in
         let written = values-replaced n (λ d. lists d .writes) (c .changes) wrote place held-place new (r .writes-short) in
+        let versions = ap (pad n 0) (map-same (λ t p w. p .version)) in
         λ j.
-        tables (held j) (timestamps j) (encode n c .order) (statuses j) (flags j) (lengths j) (programs j) (reads j) (writes j) (sources j) (seen j) (targets j) (written j) view
+        tables (held j) (timestamps j) (encode n c .order) (statuses j) (flags j) (lengths j) (programs j) (reads j) (writes j) (sources j) (seen j) (targets j) (written j) view (versions j)
 
     -- the tables of the cabinet with that history
     pub replaced-tables : replacedTables (encode n c) k new view ≡ encode n (withHistory c (take k (historyOf c) ++ new ∷ drop (suc k) (historyOf c)) view)

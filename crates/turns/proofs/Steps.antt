@@ -79,14 +79,15 @@ module _ {noted : Bool} {k : ℕ} {T : Tables} {known : List ℕ} {before after 
 
       -- it is cleared or runs
       pub turn-moves :
-          {status' : List ℕ} {C' : Columns} {seen' written' view' : List ℤ} {settled' known'' : List ℕ} {before'' after'' : List ℤ} {stamp : ℕ} {status'' : List ℕ} {new : Run} {answer : Turned} →
+          {status' : List ℕ} {C' : Columns} {seen' written' view' : List ℤ} {settled' known'' : List ℕ} {before'' after'' : List ℤ} {stamp version : ℕ} {status'' : List ℕ} {new : Run} {answer : Turned} →
           (moves : a ≡ act.Stand → ⊥) →
           (s : stamp ≡ getD (T .timestamps) place 0) →
-          (r : Replaced a new k (columnsOf T) (T .seen) (T .written) (T .lengths) (T .programs) readers' writers' (T .status) (T .view) status' C' seen' written' view' settled' known'' before'' after'') →
+          (v : version ≡ getD (T .versions) place 0) →
+          (r : Replaced a version new k (columnsOf T) (T .seen) (T .written) (T .lengths) (T .programs) readers' writers' (T .status) (T .view) status' C' seen' written' view' settled' known'' before'' after'') →
           (q : status'' ≡ set status' place 1) →
           answer ≡ answerBy a new stamp →
-          let U = leftTables (t .formed) k (t .waits) (d .0) moves s turn-uses r q in (reply answer U ≡ turned T) × (noted ≡ true → Going (k + 1) U known'' before'' after'' readers' writers' settled')
-      turn-moves m s r q e = let o = turn-replaced (t .formed) k (t .waits) (d .0) m s turn-uses r q e in (o .0, λ n. o .1)
+          let U = leftTables (t .formed) k (t .waits) (d .0) moves s v turn-uses r q in (reply answer U ≡ turned T) × (noted ≡ true → Going (k + 1) U known'' before'' after'' readers' writers' settled')
+      turn-moves m s v r q e = let o = turn-replaced (t .formed) k (t .waits) (d .0) m s v turn-uses r q e in (o .0, λ n. o .1)
 
 -- ---- `turn_once`
 

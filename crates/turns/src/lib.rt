@@ -68,6 +68,7 @@ pub fn turn_at(
     targets: &mut [u16],
     written: &mut [i32],
     view: &mut [i32],
+    versions: &[u16],
     before: &mut [i32; 1024],
     after: &mut [i32; 1024],
     known: &mut [u8; 1024],
@@ -78,14 +79,14 @@ pub fn turn_at(
     requires { ⌜
         (let T =
         tables (now held) (now timestamps) (now order) (now status) (now withdrawn) (now lengths) (now programs) (now reads)
-        (now writes) (now sources) (now seen) (now targets) (now written) (now view) in
+        (now writes) (now sources) (now seen) (now targets) (now written) (now view) (now versions) in
         Turnable noted k T (now known) (now before) (now after) (now readers) (now writers) (now settled))
         ⌝ }
     ensures { λ r. ⌜
         (let T =
         tables (now (held .entry)) (now (timestamps .entry)) (now (order .entry)) (now (status .entry)) (now (withdrawn .entry))
         (now (lengths .entry)) (now (programs .entry)) (now (reads .entry)) (now (writes .entry)) (now (sources .entry))
-        (now (seen .entry)) (now (targets .entry)) (now (written .entry)) (now (view .entry)) in
+        (now (seen .entry)) (now (targets .entry)) (now (written .entry)) (now (view .entry)) (now (versions .entry)) in
         let U =
         withTurn T (now (status .exit)) (now (reads .exit)) (now (writes .exit)) (now (sources .exit)) (now (seen .exit))
         (now (targets .exit)) (now (written .exit)) (now (view .exit)) in
@@ -96,6 +97,7 @@ pub fn turn_at(
 {
     let place = order[k] as usize;
     let timestamp = timestamps[place];
+    let version = versions[place];
     let act = decide(
         k,
         order,
@@ -132,6 +134,7 @@ pub fn turn_at(
     );
     let run = replace(
         act,
+        version,
         k,
         order,
         status,
@@ -171,15 +174,16 @@ pub fn turn_once(
     targets: &mut [u16],
     written: &mut [i32],
     view: &mut [i32],
+    versions: &[u16],
 ) -> Turned
     requires { ⌜ Formed (length (now order))
         (tables (now held) (now timestamps) (now order) (now status) (now withdrawn) (now lengths) (now programs) (now reads)
-        (now writes) (now sources) (now seen) (now targets) (now written) (now view)) ⌝ }
+        (now writes) (now sources) (now seen) (now targets) (now written) (now view) (now versions)) ⌝ }
     ensures { λ r. ⌜
         (let T =
         tables (now (held .entry)) (now (timestamps .entry)) (now (order .entry)) (now (status .entry)) (now (withdrawn .entry))
         (now (lengths .entry)) (now (programs .entry)) (now (reads .entry)) (now (writes .entry)) (now (sources .entry))
-        (now (seen .entry)) (now (targets .entry)) (now (written .entry)) (now (view .entry)) in
+        (now (seen .entry)) (now (targets .entry)) (now (written .entry)) (now (view .entry)) (now (versions .entry)) in
         reply r
         (withTurn T (now (status .exit)) (now (reads .exit)) (now (writes .exit)) (now (sources .exit)) (now (seen .exit))
         (now (targets .exit)) (now (written .exit)) (now (view .exit)))
@@ -212,6 +216,7 @@ pub fn turn_once(
                 targets,
                 written,
                 view,
+                versions,
                 &mut before,
                 &mut after,
                 &mut known,

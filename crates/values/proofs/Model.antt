@@ -1,5 +1,5 @@
 -- The values as of a position, and the change at it, in tables that are in form, as they are in the history that the tables hold.
-use mathlib.Core.Path.{_≡_, sym, ap, fun-ext, _∙_}
+use mathlib.Core.Path.{_≡_, sym, ap, subst⁻¹, fun-ext, _∙_}
 use mathlib.Core.Bool.{true}
 use mathlib.Core.List.{List, [], _∷_}
 use Prim.Native.Nat.{ℕ, zero, suc, _≤_, _<_}
@@ -7,6 +7,7 @@ use native.Mathlib.Omega.{arith}
 use lib.IntN.{ℤ}
 use lib.ListN.{length, getD, take}
 use Rattle.machine.specs.Settings.{settingCount, Environment, Entry, entries, Distinct}
+use Rattle.machine.specs.Instruction.{Code}
 use Rattle.machine.specs.Form.{wellFormed}
 use Rattle.model.specs.History.{start, Change, program, lists, afterAll}
 use Rattle.model.specs.Cabinet.{blank}
@@ -65,11 +66,11 @@ module _ {n : ℕ} {T : Tables} (g : Formed n T) where
         ∙ program-back n (decode T) (facts g .sound) place place-held
         ∙ ap program (by-place g k h)
 
-    pub program-size : length (program here) ≤ 256
-    program-size = length-short (program here) (here-sound .sized)
+    pub program-size : length (program here .bytes) ≤ 256
+    program-size = length-short (program here .bytes) (here-sound .sized)
 
-    pub program-formed : wellFormed (programAt T place) ≡ true
-    program-formed = rw program-here (here-sound .formed)
+    pub program-formed : wellFormed (programAt T place .bytes) ≡ true
+    program-formed = subst⁻¹ (λ (p : Code). wellFormed (p .bytes) ≡ true) program-here (here-sound .formed)
 
     -- for `seen_hold`: its reads
     pub reads-here : readsAt T place ≡ lists here .reads

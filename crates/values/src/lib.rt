@@ -10,6 +10,7 @@ ghost use mathlib.Core.Bool.{true};
 ghost use Prim.Native.Nat.{_+_, _<_, _≤_};
 ghost use lib.ListN.{length, getD};
 ghost use Rattle.machine.specs.Settings.{entries, carry};
+ghost use Rattle.machine.specs.Instruction.{code};
 ghost use Rattle.machine.specs.Form.{wellFormed};
 ghost use Rattle.machine.specs.Run.{run};
 ghost use Rattle.run_record.specs.Record.{lists, Sized, Ran};
@@ -141,8 +142,9 @@ fn wanted_value(
     0
 }
 
-// The run of a program on the values as of a position.
+// The run of a program by the rules of a version, on the values as of a position.
 pub fn run_at(
+    version: u16,
     program: &[u8],
     k: usize,
     order: &[u16],
@@ -164,11 +166,11 @@ pub fn run_at(
     ensures { λ r. ⌜ (let env = valuesBelow (now (order .entry)) (now (writes .entry)) (now (targets .entry)) (now (written .entry)) k in
         Ran r
         (lists (now («new_sources» .exit)) (now («new_seen» .exit)) (now («new_targets» .exit)) (now («new_written» .exit)))
-        (run env (now (program .entry)))
+        (run env (code version (now (program .entry))))
         × Looked env (now (known .entry)) (now (known .exit)) (now (before .exit)) (now (after .exit))) ⌝ }
 {
     let count = program.len() / 8;
-    let mut run = Run::new();
+    let mut run = Run::new(version);
     let mut place = 0;
     while place < count {
         let e = run.effect(instruction_at(program, place));

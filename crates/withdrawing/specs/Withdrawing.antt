@@ -7,7 +7,7 @@ use Rattle.model.specs.Tables.{Tables, withPackage}
 
 -- the tables with those that withdrawing is lent
 abbrev pub withLent : Tables → List ℕ → List ℕ → List ℕ → List ℕ → List ℕ → Tables
-withLent T held timestamps order status withdrawn = withPackage T held timestamps order status withdrawn (T .lengths) (T .programs)
+withLent T held timestamps order status withdrawn = withPackage T held timestamps order status withdrawn (T .lengths) (T .programs) (T .versions)
 
 -- Valid becomes Invalid
 abbrev pub unsettledNumber : ℕ → ℕ

@@ -11,7 +11,7 @@
 //! | `done answers [a, b, ..]` | `take_in_package`: for each entry 0 done, 255 already held, else the refusal |
 //! | `length N HEX` | `package_out`: HEX is the N bytes written, as pairs of lower-case hexadecimal digits |
 //! | `done [v, v, ..]` | `plain_run`, `start_values`: the 1,024 settings |
-//! | one line of JSON | `tables`: an object of fourteen lists |
+//! | one line of JSON | `tables`: an object of fifteen lists |
 //! | `refused R` | all but `start_values`, `tables` and `load` |
 
 use crate::json;
@@ -70,7 +70,8 @@ impl Runner {
             Call::TakeIn {
                 timestamp,
                 ref program,
-            } => calls::take_in(n, tables, timestamp, program).map(taken),
+                version,
+            } => calls::take_in(n, tables, timestamp, version, program).map(taken),
             Call::Withdraw { timestamp } => calls::withdraw(n, tables, timestamp).map(done),
             Call::Turn => calls::turn(n, tables).map(turned),
             Call::Drain { totals } => {

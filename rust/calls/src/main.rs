@@ -23,7 +23,7 @@ prints one answer line each. The lines come from FILE or from standard input.
 
 line                        answer, where it is not `refused R`
 set_up                      done
-take_in TS HEX              done, held
+take_in TS HEX [VERSION]    done, held
 withdraw TS                 done
 turn                        idle, ran TS, stood TS, cleared TS, faulted TS PLACE
 drain [lenL]                done by console {"P": T, ..}, the totals that are not 0
@@ -38,11 +38,13 @@ tables                      the tables, one line of JSON
 load FILE                   done; FILE has tables as `tables` prints them
 
 TS is a timestamp, S a setting, HEX bytes as pairs of hexadecimal digits, or - for
-none. PLACE is that of the instruction that broke off, counted from 0. P is 4 x the
-console of a change, the lowest 8 bits of its TS, + 0 ran, 1 stood, 2 cleared, 3
-faulted; T is the number of such turns. With lenL a slice of L zeros is lent, to
-drain instead of 1,024, to take_in_package instead of 512; package_out is lent L
-zeros. Empty lines and lines that start with # are passed over.
+none. VERSION is 0 unless it is given; a program of version 1 may read and write
+again what it has written. PLACE is that of the instruction that broke off, counted
+from 0. P is 4 x the console of a change, the lowest 8 bits of its TS, + 0 ran, 1
+stood, 2 cleared, 3 faulted; T is the number of such turns. With lenL a slice of L
+zeros is lent, to drain instead of 1,024, to take_in_package instead of 512;
+package_out is lent L zeros. Empty lines and lines that start with # are passed
+over.
 
 A line that cannot be read ends the run with a message and exit status 1, wrong
 arguments with status 2.

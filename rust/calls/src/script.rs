@@ -7,7 +7,7 @@
 //! | line | call |
 //! |---|---|
 //! | `set_up` | set up |
-//! | `take_in TS HEX` | take in the change with this timestamp and program |
+//! | `take_in TS HEX [VERSION]` | take in the change with this timestamp, program and version |
 //! | `withdraw TS` | withdraw |
 //! | `turn` | turn |
 //! | `drain [lenL]` | drain |
@@ -21,10 +21,10 @@
 //! | `tables` | no call: the tables as they stand |
 //! | `load FILE` | no call: the calls after it are lent the tables of this file |
 //!
-//! `TS` is a number of 64 bits, `S` and `L` are numbers of the machine's size, all in decimal
-//! digits alone. `HEX` is the bytes as pairs of hexadecimal digits, or `-` for none. A drain is lent
-//! 1,024 totals and take in a package 512 answers; with `lenL`, for example `len511`, a slice of that
-//! length is lent instead.
+//! `TS` is a number of 64 bits, `VERSION` one of 16, `S` and `L` are numbers of the machine's size,
+//! all in decimal digits alone. `HEX` is the bytes as pairs of hexadecimal digits, or `-` for none. A
+//! change has version 0 unless its line gives another. A drain is lent 1,024 totals and take in a
+//! package 512 answers; with `lenL`, for example `len511`, a slice of that length is lent instead.
 
 use std::fmt;
 use std::str::{self, FromStr};
@@ -34,9 +34,11 @@ use std::str::{self, FromStr};
 #[allow(missing_docs)]
 pub enum Call {
     SetUp,
+    /// `version` is 0 where the line gives none.
     TakeIn {
         timestamp: u64,
         program: Vec<u8>,
+        version: u16,
     },
     Withdraw {
         timestamp: u64,
@@ -150,6 +152,7 @@ pub fn read(line: &[u8]) -> Result<Option<Call>, Error> {
         "take_in" => Call::TakeIn {
             timestamp: arguments.timestamp()?,
             program: arguments.bytes()?,
+            version: arguments.version()?,
         },
         "withdraw" => Call::Withdraw {
             timestamp: arguments.timestamp()?,
@@ -219,6 +222,11 @@ impl<'a, W: Iterator<Item = &'a str>> Arguments<W> {
             (pairs, []) => Ok(pairs.iter().map(|[high, low]| 16 * high + low).collect()),
             _ => Err(Error::OddDigits),
         }
+    }
+
+    fn version(&mut self) -> Result<u16, Error> {
+        let word = self.0.next();
+        word.map_or(Ok(0), |word| number("VERSION", word))
     }
 
     fn length(&mut self) -> Result<usize, Error> {

@@ -85,13 +85,13 @@ impl Both {
         self.call(&"set up", proved::set_up, calls::set_up)
     }
 
-    /// Takes in a change.
+    /// Takes in a change. The version may be any number.
     #[track_caller]
-    pub fn take_in(&mut self, timestamp: u64, program: &[u8]) -> Result<Taken, u8> {
+    pub fn take_in(&mut self, timestamp: u64, version: u16, program: &[u8]) -> Result<Taken, u8> {
         self.call(
-            &format_args!("taking in {timestamp}, {program:?}"),
-            |n, tables| proved::take_in(n, tables, timestamp, program),
-            |n, tables| intake::take_in(n, tables, timestamp, program),
+            &format_args!("taking in {timestamp} of version {version}, {program:?}"),
+            |n, tables| proved::take_in(n, tables, timestamp, version, program),
+            |n, tables| intake::take_in(n, tables, timestamp, version, program),
         )
     }
 
@@ -212,8 +212,10 @@ impl Both {
             assert_eq!(self.ask(query), Err(refusal), "{query:?} on {self:?}");
         }
         for timestamp in [held, 77, 0] {
-            assert_eq!(self.take_in(timestamp, &[]), Err(refusal), "{self:?}");
-            assert_eq!(self.take_in(timestamp, &[255; 9]), Err(refusal), "{self:?}");
+            for (version, program) in [(0, &[][..]), (1, &[]), (2, &[]), (u16::MAX, &[255; 9])] {
+                let taken = self.take_in(timestamp, version, program);
+                assert_eq!(taken, Err(refusal), "{self:?}");
+            }
             assert_eq!(self.withdraw(timestamp), Err(refusal), "{self:?}");
         }
         for package in [&[0, 0][..], &[0, 0, 0]] {
@@ -293,6 +295,7 @@ impl Debug for Both {
             .field("status", &self.outside.status)
             .field("withdrawn", &self.outside.withdrawn)
             .field("lengths", &self.outside.lengths)
+            .field("versions", &self.outside.versions)
             .field("reads", &self.outside.reads)
             .field("writes", &self.outside.writes)
             .finish_non_exhaustive()

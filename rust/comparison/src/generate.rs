@@ -6,7 +6,9 @@ pub mod tables;
 pub mod write_lists;
 
 use outside::checker::TOTALS;
-use outside::program::{op, Instruction, INSTRUCTION_BYTES, MAX_INSTRUCTIONS, REGISTERS, SETTINGS};
+use outside::program::{
+    op, Instruction, Version, INSTRUCTION_BYTES, MAX_INSTRUCTIONS, REGISTERS, SETTINGS,
+};
 
 /// The SplitMix64 generator.
 pub struct Random(u64);
@@ -60,6 +62,30 @@ pub const EXTREMES: [i32; 12] = [
     i32::MAX,
 ];
 
+/// A version.
+pub fn version(random: &mut Random) -> Version {
+    random.pick(&Version::ALL)
+}
+
+/// The version that this one is not.
+pub fn other_version(version: Version) -> Version {
+    match version {
+        Version::Zero => Version::One,
+        Version::One => Version::Zero,
+    }
+}
+
+/// Numbers that are no versions: at the ends, and some whose lowest byte alone would be one.
+pub const NO_VERSIONS: [u16; 5] = [2, 255, 256, 257, u16::MAX];
+
+/// A number that is no version.
+pub fn no_version(random: &mut Random) -> u16 {
+    match random.below(2) {
+        0 => random.pick(&NO_VERSIONS),
+        _ => 2 + random.below(usize::from(u16::MAX) - 1) as u16,
+    }
+}
+
 /// What random programs are made of.
 pub struct Style {
     /// The operations to draw from: one that stands here twice is drawn twice as often.
@@ -97,6 +123,13 @@ impl Style {
     pub const ACCESSES: Self = Self {
         operations: &[1, 1, 1, 11, 11, 11, 11, 12, 13, 13, 13, 13, 14],
         settings: 64,
+    };
+
+    /// Reads and writes of few settings, by number and by register: most runs come to settings that
+    /// they have written.
+    pub const OWN_WRITES: Self = Self {
+        operations: &[1, 1, 1, 3, 11, 11, 12, 13, 13, 13, 14, 14],
+        settings: 5,
     };
 
     /// Reads and writes of settings by number, and sums: most runs go through.

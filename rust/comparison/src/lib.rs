@@ -16,6 +16,7 @@
 
 pub mod both;
 pub mod generate;
+pub mod own_writes;
 pub mod packages_out;
 pub mod proved;
 pub mod reached;

@@ -1,7 +1,7 @@
 //! What package out does, to count it.
 
 use outside::package::{ENTRY_BYTES, MAX_BYTES, MAX_ENTRIES};
-use outside::program::INSTRUCTION_BYTES;
+use outside::program::{Version, INSTRUCTION_BYTES};
 use outside::tables::{Status, Tables};
 
 /// How large the package of tables in form is, whatever its limits. Of other tables it is some
@@ -41,6 +41,10 @@ pub enum PackageEvent {
     /// A change of this status is written, and one that is withdrawn.
     Change(Status),
     Withdrawn(Status),
+    /// A change of this version is written, one that is withdrawn, and changes of both.
+    Version(Version),
+    WithdrawnVersion(Version),
+    BothVersions,
     /// The changes did not arrive in the order in which they are written.
     OtherArrival,
     /// It is refused for one reason alone: there are too many entries, too many bytes, or more than
@@ -91,6 +95,16 @@ fn written(tables: &Tables, size: Size, room: usize) -> Vec<(bool, PackageEvent)
         events.push((with(0), PackageEvent::Change(status)));
         events.push((with(1), PackageEvent::Withdrawn(status)));
     }
+    let of = |version| (0..held).filter(move |&place| tables.version(place) == version);
+    for version in Version::ALL {
+        let withdrawn = of(version).any(|place| tables.withdrawn[place] == 1);
+        events.push((of(version).next().is_some(), PackageEvent::Version(version)));
+        events.push((withdrawn, PackageEvent::WithdrawnVersion(version)));
+    }
+    let both = Version::ALL
+        .into_iter()
+        .all(|version| of(version).next().is_some());
+    events.push((both, PackageEvent::BothVersions));
     events
 }
 

@@ -10,12 +10,13 @@ use outside::program::{Access, Fault, MAX_INSTRUCTIONS, SETTINGS};
 use std::fmt;
 
 unsafe extern "C" {
-    /// 0 if the program is accepted, else the refusal, 6 or 7. Requires nothing.
-    fn tolbezun_program_refusal(program: *const u8, program_len: usize) -> u8;
+    /// 0 if the program is accepted, else the refusal: 6, then 13, then 7. Requires nothing.
+    fn tolbezun_program_refusal(version: u16, program: *const u8, program_len: usize) -> u8;
 
     /// Requires nothing. Returns reads + 64 × writes + 4,096 × ending + 65,536 × place, see
-    /// [`Outcome`], or 16,777,216 + the refusal: 1 where a list has not 32 slots, else 6 or 7.
+    /// [`Outcome`], or 16,777,216 + the refusal: 1 where a list has not 32 slots, else 6, 13 or 7.
     fn tolbezun_program_run(
+        version: u16,
         program: *const u8,
         program_len: usize,
         values: *const i32,
@@ -34,19 +35,21 @@ unsafe extern "C" {
 /// What the number of a refused run has above the refusal.
 const REFUSED: u32 = 16_777_216;
 
-/// 0 if the program is accepted, else the refusal.
-pub fn refusal(program: &[u8]) -> u8 {
+/// 0 if the program is accepted, else the refusal. The version may be any number.
+pub fn refusal(version: u16, program: &[u8]) -> u8 {
     // SAFETY: pointer and length are those of a slice, and nothing more is required.
-    unsafe { tolbezun_program_refusal(program.as_ptr(), program.len()) }
+    unsafe { tolbezun_program_refusal(version, program.as_ptr(), program.len()) }
 }
 
-/// Runs the program on the given values of the settings, into lists of any length; settings past the
-/// values are 0. Returns the number of the run; see [`Outcome`]. The error is the refusal.
+/// Runs the program by this version on the given values of the settings, into lists of any length;
+/// settings past the values are 0. Returns the number of the run; see [`Outcome`]. The error is the
+/// refusal.
 ///
 /// # Panics
 ///
 /// Panics if the library gave a number that is neither a run's nor a refusal's.
 pub fn run_lent(
+    version: u16,
     program: &[u8],
     values: &[i32],
     read_settings: &mut [u16],
@@ -58,6 +61,7 @@ pub fn run_lent(
     // required.
     let number = unsafe {
         tolbezun_program_run(
+            version,
             program.as_ptr(),
             program.len(),
             values.as_ptr(),
@@ -74,15 +78,21 @@ pub fn run_lent(
     };
     match number.checked_sub(REFUSED) {
         None => Ok(number),
-        Some(refusal @ (1 | 6 | 7)) => Err(refusal as u8),
+        Some(refusal @ (1 | 6 | 13 | 7)) => Err(refusal as u8),
         Some(_) => panic!("the number {number} of a run"),
     }
 }
 
-/// Runs the program on the given values of the settings. What the outcome held is overwritten. The
-/// error is the refusal; the outcome is then as it was.
-pub fn run_into(program: &[u8], values: &[i32; SETTINGS], outcome: &mut Outcome) -> Result<(), u8> {
+/// Runs the program by this version on the given values of the settings. What the outcome held is
+/// overwritten. The error is the refusal; the outcome is then as it was.
+pub fn run_into(
+    version: u16,
+    program: &[u8],
+    values: &[i32; SETTINGS],
+    outcome: &mut Outcome,
+) -> Result<(), u8> {
     outcome.result = run_lent(
+        version,
         program,
         values,
         &mut outcome.read_settings,
@@ -94,9 +104,9 @@ pub fn run_into(program: &[u8], values: &[i32; SETTINGS], outcome: &mut Outcome)
 }
 
 /// As [`run_into`], into a new outcome.
-pub fn run(program: &[u8], values: &[i32; SETTINGS]) -> Result<Outcome, u8> {
+pub fn run(version: u16, program: &[u8], values: &[i32; SETTINGS]) -> Result<Outcome, u8> {
     let mut outcome = Outcome::EMPTY;
-    run_into(program, values, &mut outcome)?;
+    run_into(version, program, values, &mut outcome)?;
     Ok(outcome)
 }
 

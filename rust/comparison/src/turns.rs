@@ -1,7 +1,8 @@
 //! What turns do, to count it.
 
+use crate::own_writes::{self, OwnWrite};
 use outside::checker::{Turn, Turned, CONSOLES, KINDS};
-use outside::program::{self, Access, Fault, SETTINGS};
+use outside::program::{self, Access, Fault, Version, SETTINGS};
 use outside::start::{settings_at_start, start_value};
 use outside::tables::{Status, Tables, INFINITY};
 use std::collections::{BTreeMap, BTreeSet};
@@ -18,9 +19,16 @@ pub enum TurnEvent {
     /// A New change faults, and an Invalid one.
     FaultedFirst,
     FaultedAgain,
-    /// The run faults so, and after reads.
-    Faulted(Fault),
+    /// The run faults so, by this version, and after reads.
+    Faulted(Version, Fault),
     FaultedAfterReads,
+    /// The run, by version 1, does so, of a New change, and of an Invalid one.
+    OwnWriteFirst(OwnWrite),
+    OwnWriteAgain(OwnWrite),
+    /// An Invalid change stands whose run, by what it had seen, did so.
+    OwnWriteStood(OwnWrite),
+    /// The run, by version 1, faults after it came to a setting that it had written.
+    FaultedAfterOwnWrite,
     /// An Invalid change that had faulted, by what it had seen, runs without a fault, faults, stands.
     RanAfterFault,
     FaultedAfterFault,
@@ -96,6 +104,7 @@ pub fn events(before: &Tables, after: &Tables, turn: Turn) -> Vec<TurnEvent> {
     let place = before.place_of(turn.timestamp).expect("the change is held");
     let possible = at_change(before, after, place, turn.turned).into_iter();
     events.extend(possible.filter_map(|(happened, event)| happened.then_some(event)));
+    events.extend(own_writes(before, after, place, turn.turned));
     for touched in touched(before, after, turn) {
         touched.events(&mut events, before, after);
     }
@@ -126,7 +135,7 @@ fn at_change(
             vec![
                 (first, TurnEvent::FaultedFirst),
                 (again, TurnEvent::FaultedAgain),
-                (true, TurnEvent::Faulted(fault)),
+                (true, TurnEvent::Faulted(after.version(place), fault)),
                 (after.reads[place] > 0, TurnEvent::FaultedAfterReads),
                 (had_faulted, TurnEvent::FaultedAfterFault),
                 (again && !had_faulted, TurnEvent::FaultedAfterRan),
@@ -139,6 +148,24 @@ fn at_change(
             (had_written, TurnEvent::ClearedWriter),
         ],
     }
+}
+
+/// What the run of the change at this place, or the one that stands, does with its own writes.
+fn own_writes(before: &Tables, after: &Tables, place: usize, turned: Turned) -> Vec<TurnEvent> {
+    let event = match (turned, before.status(place)) {
+        (Turned::Cleared, _) => return Vec::new(),
+        (Turned::Stood, _) => TurnEvent::OwnWriteStood,
+        (Turned::Ran | Turned::Faulted(_), Status::New) => TurnEvent::OwnWriteFirst,
+        (Turned::Ran | Turned::Faulted(_), _) => TurnEvent::OwnWriteAgain,
+    };
+    let run = own_writes::of_run(
+        after.version(place),
+        after.program(place),
+        &saw(after, place),
+    );
+    let faulted = matches!(turned, Turned::Faulted(_)) && !run.is_empty();
+    let after_own_write = faulted.then_some(TurnEvent::FaultedAfterOwnWrite);
+    run.into_iter().map(event).chain(after_own_write).collect()
 }
 
 /// A setting that the change of a turn had written or writes.
@@ -384,14 +411,21 @@ fn previous_value(tables: &Tables, timestamp: u64, setting: u16) -> i32 {
     highest.map_or_else(|| start_value(setting.into()), |(_, value)| value)
 }
 
-/// The fault of the run that left this read list. Settings that it did not read do not matter.
+/// The fault of the run that left this read list.
 fn fault(tables: &Tables, place: usize) -> Option<Fault> {
+    let (version, settings) = (tables.version(place), saw(tables, place));
+    let outcome = program::run(version, tables.program(place), &settings);
+    outcome.fault().map(|(fault, _)| fault)
+}
+
+/// The settings as the run saw them that left this read list. Those that it did not read do not
+/// matter to it.
+fn saw(tables: &Tables, place: usize) -> [i32; SETTINGS] {
     let mut settings = [0; SETTINGS];
     for read in tables.read_list(place) {
         settings[usize::from(read.setting)] = read.value;
     }
-    let outcome = program::run(tables.program(place), &settings);
-    outcome.fault().map(|(fault, _)| fault)
+    settings
 }
 
 fn names(mut list: impl Iterator<Item = Access>, setting: u16) -> bool {

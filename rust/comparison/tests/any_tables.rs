@@ -5,6 +5,7 @@ use comparison::both::Both;
 use comparison::generate::scripts::{Shape, Source};
 use comparison::generate::tables as random_tables;
 use comparison::generate::{self, packages, Random};
+use comparison::own_writes::OwnWrite;
 use comparison::proved::calls as proved;
 use comparison::reached::Reached;
 use comparison::seeds::{count_reached, with_seeds};
@@ -12,7 +13,7 @@ use comparison::turns::{self, DrainEvent, TurnEvent};
 use outside::checker::{Turned, CONSOLES, KINDS, TOTALS};
 use outside::intake::Taken;
 use outside::package::{lay_out, ANSWERS};
-use outside::program::{op, Fault, Instruction, MAX_INSTRUCTIONS};
+use outside::program::{op, Fault, Instruction, Version, MAX_INSTRUCTIONS};
 use outside::tables::{
     in_form, Status, Tables, INFINITY, LIST_ENTRIES, MAX_CAPACITY, PROGRAM_BYTES,
 };
@@ -135,8 +136,8 @@ fn turns_and_drains_leave_the_same_tables() {
         Event::Turn(TurnEvent::RanAgain),
         Event::Turn(TurnEvent::FaultedFirst),
         Event::Turn(TurnEvent::FaultedAgain),
-        Event::Turn(TurnEvent::Faulted(Fault::ReadOfWritten)),
-        Event::Turn(TurnEvent::Faulted(Fault::WrittenTwice)),
+        Event::Turn(TurnEvent::Faulted(Version::Zero, Fault::ReadOfWritten)),
+        Event::Turn(TurnEvent::Faulted(Version::Zero, Fault::WrittenTwice)),
         Event::Turn(TurnEvent::FaultedAfterReads),
         Event::Turn(TurnEvent::WritesSecondTime),
         Event::Turn(TurnEvent::FaultsSecondTime),
@@ -174,7 +175,9 @@ fn turns_and_drains_leave_the_same_tables() {
     }
     let highest = Turned::Faulted(MAX_INSTRUCTIONS - 1);
     for event in [
-        TurnEvent::Faulted(Fault::NoSuchSetting),
+        TurnEvent::Faulted(Version::Zero, Fault::NoSuchSetting),
+        TurnEvent::Faulted(Version::One, Fault::NoSuchSetting),
+        TurnEvent::FaultedAfterOwnWrite,
         TurnEvent::Answered(highest),
         TurnEvent::RanAfterFault,
         TurnEvent::FaultedAfterFault,
@@ -182,6 +185,15 @@ fn turns_and_drains_leave_the_same_tables() {
         TurnEvent::FaultedAfterRan,
     ] {
         reached.assert_at_least(TABLES / 300, Event::Turn(event));
+    }
+    for own_write in OwnWrite::ALL {
+        for event in [
+            TurnEvent::OwnWriteFirst,
+            TurnEvent::OwnWriteAgain,
+            TurnEvent::OwnWriteStood,
+        ] {
+            reached.assert_at_least(TABLES / 300, Event::Turn(event(own_write)));
+        }
     }
 }
 
@@ -376,14 +388,24 @@ fn changes_and_packages_taken_in_and_withdrawals_leave_the_same_tables() {
         };
         match random.below(3) {
             0 => {
-                let mut program = match both.tables().place_of(timestamp) {
-                    Some(place) => both.tables().program(place).to_vec(),
-                    None => source.program(random),
+                let version = generate::version(random);
+                let (mut version, mut program) = match both.tables().place_of(timestamp) {
+                    Some(place) => {
+                        let tables = both.tables();
+                        (tables.version(place), tables.program(place).to_vec())
+                    }
+                    None => (version, source.program(random, version)),
                 };
-                if random.below(2) == 0 {
-                    generate::damage(random, &mut program);
+                match random.below(8) {
+                    0..4 => generate::damage(random, &mut program),
+                    4 => version = generate::other_version(version),
+                    _ => {}
                 }
-                reached.count(match both.take_in(timestamp, &program) {
+                let number = match random.below(8) {
+                    0 => generate::no_version(random),
+                    _ => version.number(),
+                };
+                reached.count(match both.take_in(timestamp, number, &program) {
                     Ok(taken) => Event::Taken(taken),
                     Err(refusal) => Event::TakeInRefused(refusal),
                 });
@@ -417,7 +439,7 @@ fn changes_and_packages_taken_in_and_withdrawals_leave_the_same_tables() {
     ] {
         reached.assert_at_least(TABLES / 50, event);
     }
-    for refusal in [4, 6, 7, 8, 9] {
+    for refusal in [4, 6, 13, 7, 8, 9] {
         reached.assert_at_least(TABLES / 100, Event::TakeInRefused(refusal));
     }
     for refusal in [4, 10, 11] {

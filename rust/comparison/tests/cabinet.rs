@@ -5,7 +5,7 @@ use comparison::generate::scripts::Source;
 use comparison::seeds::with_seeds;
 use outside::cabinet::{listing, CAPACITY};
 use outside::package::{lay_out, Entry, MAX_BYTES};
-use outside::program::{op, Instruction};
+use outside::program::{op, Instruction, Version};
 use std::io::Write;
 use std::process::{Command, Stdio};
 use std::thread;
@@ -64,10 +64,12 @@ fn package_of_70_bytes() -> Vec<u8> {
     lay_out(&[
         Entry::Change {
             timestamp: 20,
+            version: Version::Zero,
             program: program(op::READ, 34, 50),
         },
         Entry::Change {
             timestamp: 10,
+            version: Version::Zero,
             program: program(op::CONSTANT, 7, 34),
         },
         Entry::Withdrawal { timestamp: 15 },
@@ -112,8 +114,11 @@ fn random_packages_are_listed() {
                 // Programs that read and write the same settings.
                 let source = Source::new(random, CAPACITY);
                 for entry in &mut entries {
-                    if let Entry::Change { program, .. } = entry {
-                        *program = source.program(random);
+                    if let Entry::Change {
+                        version, program, ..
+                    } = entry
+                    {
+                        *program = source.program(random, *version);
                     }
                 }
             }
@@ -157,8 +162,9 @@ fn turns_that_fault_are_listed_with_the_place() {
         (11, set(3).chain(program(op::READ, 300, 301))),
         (10, set(1).chain(program(op::READ, 100, 200))),
     ];
-    let entries = entries.map(|(timestamp, program)| Entry::Change {
+    let mut entries = entries.map(|(timestamp, program)| Entry::Change {
         timestamp,
+        version: Version::Zero,
         program: program.collect(),
     });
     let expected = "\
@@ -176,6 +182,41 @@ setting 101 1
 setting 102 2
 ";
     assert_eq!(assert_listed(&lay_out(&entries)), expected);
+
+    // The same by version 1, but for 12.
+    for (index, entry) in entries.iter_mut().enumerate() {
+        if let (Entry::Change { version, .. }, 0 | 1 | 3 | 4) = (entry, index) {
+            *version = Version::One;
+        }
+    }
+    let expected = "\
+entry 0 taken
+entry 1 taken
+entry 2 taken
+entry 3 taken
+entry 4 taken
+turn 10 ran
+turn 11 ran
+turn 12 faulted 10
+turn 13 ran
+turn 18446744073709551614 ran
+setting 100 7
+setting 101 1
+setting 102 2
+setting 103 3
+setting 104 4
+setting 105 5
+setting 106 6
+setting 107 7
+setting 108 8
+setting 109 9
+setting 110 10
+setting 111 11
+setting 112 12
+setting 113 13
+setting 114 7
+";
+    assert_eq!(assert_listed(&lay_out(&entries)), expected);
 }
 
 /// Settings at 0 and at 1, which some start at.
@@ -183,8 +224,11 @@ setting 102 2
 fn settings_that_differ_from_their_start_are_listed() {
     let set = |value, setting| program(op::CONSTANT, value, setting);
     let program = [set(0, 2), set(0, 3), set(1, 18), set(1, 19), set(-1, 1010)].concat();
-    let timestamp = 10;
-    let package = lay_out(&[Entry::Change { timestamp, program }]);
+    let package = lay_out(&[Entry::Change {
+        timestamp: 10,
+        version: Version::Zero,
+        program,
+    }]);
     let written = assert_listed(&package);
     let settings: Vec<&str> = written.lines().skip(2).collect();
     assert_eq!(settings, ["setting 2 0", "setting 19 1", "setting 1010 -1"]);
@@ -250,6 +294,7 @@ fn bad_packages_give_one_line() {
 fn the_longest_package_is_listed() {
     let change = |timestamp| Entry::Change {
         timestamp,
+        version: Version::ALL[timestamp as usize % 2],
         program: vec![0; if timestamp == 245 { 128 } else { 256 }],
     };
     let mut package = lay_out(&(1..=245).map(change).collect::<Vec<_>>());

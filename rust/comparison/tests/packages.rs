@@ -2,13 +2,13 @@
 
 use comparison::both::Both;
 use comparison::generate::packages::{self, Breach};
-use comparison::generate::Random;
+use comparison::generate::{other_version, Random};
 use comparison::seeds::{count_reached, with_seeds};
 use outside::checker::TOTALS;
 use outside::package::{
     entries, lay_out, Entry, ALREADY_HELD, ANSWERS, DONE, ENTRY_BYTES, MAX_BYTES, MAX_ENTRIES,
 };
-use outside::program::{INSTRUCTION_BYTES, MAX_INSTRUCTIONS};
+use outside::program::{Version, INSTRUCTION_BYTES, MAX_INSTRUCTIONS};
 use outside::tables::{Tables, INFINITY};
 
 /// How many random packages are taken in.
@@ -27,11 +27,14 @@ enum Event {
     Empty,
     Some,
     All512,
-    ChangeAnswered(u8),
+    /// The answer of a change of this version.
+    ChangeAnswered(Version, u8),
     WithdrawalAnswered(u8),
-    /// A change that an earlier entry of the same package withdraws, or takes in.
+    /// A change that an earlier entry of the same package withdraws, or takes in, with the same
+    /// version or with the other.
     WithdrawnInPackage,
     HeldInPackage,
+    HeldWithOtherVersion,
     Broken(Breach),
     RandomGood,
     RandomBad,
@@ -69,16 +72,28 @@ fn random_packages_have_the_same_answers() {
                 _ => Event::Some,
             });
             for (index, (entry, &answer)) in entries.iter().zip(&answers).enumerate() {
+                assert!(![6, 13].contains(&answer), "the layout rules out {answer}");
                 let done_before = |done: &Entry| {
                     let earlier = entries[..index].iter().zip(&answers);
                     let mut earlier = earlier.filter(|(_, &answer)| answer == DONE);
                     earlier.any(|(earlier, _)| earlier == done)
                 };
                 match entry {
-                    Entry::Change { .. } => {
-                        reached.count(Event::ChangeAnswered(answer));
+                    Entry::Change {
+                        timestamp,
+                        version,
+                        program,
+                    } => {
+                        reached.count(Event::ChangeAnswered(*version, answer));
                         let held = answer == ALREADY_HELD && done_before(entry);
                         reached.count_if(held, Event::HeldInPackage);
+                        let other = Entry::Change {
+                            timestamp: *timestamp,
+                            version: other_version(*version),
+                            program: program.clone(),
+                        };
+                        let held = answer == 8 && done_before(&other);
+                        reached.count_if(held, Event::HeldWithOtherVersion);
                     }
                     Entry::Withdrawal { .. } => {
                         reached.count(Event::WithdrawalAnswered(answer));
@@ -98,12 +113,15 @@ fn random_packages_have_the_same_answers() {
         Event::Some,
         Event::All512,
         Event::HeldInPackage,
+        Event::HeldWithOtherVersion,
         Event::WithdrawnInPackage,
     ] {
         reached.assert_at_least(PACKAGES / 20, event);
     }
-    for answer in [DONE, ALREADY_HELD, 4, 7, 8, 9] {
-        reached.assert_at_least(PACKAGES / 20, Event::ChangeAnswered(answer));
+    for version in Version::ALL {
+        for answer in [DONE, ALREADY_HELD, 4, 7, 8, 9] {
+            reached.assert_at_least(PACKAGES / 20, Event::ChangeAnswered(version, answer));
+        }
     }
     for answer in [DONE, 4, 10, 11] {
         reached.assert_at_least(PACKAGES / 20, Event::WithdrawalAnswered(answer));
@@ -161,6 +179,7 @@ fn sized(count: usize, instructions: usize) -> Vec<u8> {
         let rest = instructions.saturating_sub(MAX_INSTRUCTIONS * index);
         Entry::Change {
             timestamp: 1 + index as u64,
+            version: Version::ALL[index % 2],
             program: vec![0; INSTRUCTION_BYTES * rest.min(MAX_INSTRUCTIONS)],
         }
     };
@@ -205,25 +224,76 @@ fn packages_at_the_bounds_have_the_same_answers() {
     assert_eq!(good, 1 + 7 + 1);
 }
 
+/// A package of three changes, of which the first and the last have version 0, and a withdrawal.
+fn of_four_entries() -> Vec<u8> {
+    let change = |timestamp, version, instructions| Entry::Change {
+        timestamp,
+        version,
+        program: vec![0; INSTRUCTION_BYTES * instructions],
+    };
+    lay_out(&[
+        change(20, Version::Zero, 2),
+        Entry::Withdrawal { timestamp: 20 },
+        change(INFINITY - 1, Version::One, 1),
+        change(1, Version::Zero, 0),
+    ])
+}
+
+/// Every byte as the version of each entry: 0 and 1 for a change, which is held with it, 0 for a
+/// withdrawal, and no other.
+#[test]
+fn every_version_of_an_entry_has_the_same_answers() {
+    with_seeds(|random, _| {
+        for entry in 0..4 {
+            for byte in 0..=255 {
+                let mut package = of_four_entries();
+                package[2 + ENTRY_BYTES * entry + 10] = byte;
+                let mut both = Both::just_set_up(4);
+                let answer = take_in(random, &mut both, &package);
+                let right = byte == 0 || (byte == 1 && entry != 1);
+                if !right {
+                    assert_eq!(answer, Err(3), "{byte} for entry {entry}");
+                    continue;
+                }
+                let answers = answer.expect("the layout is right");
+                assert_eq!(answers[..4], [DONE; 4]);
+                let mut versions = [0, 0, 1, 0];
+                versions[entry] = u16::from(byte);
+                let [first, _, second, third] = versions;
+                assert_eq!(both.tables().versions, [first, second, third, 0]);
+                assert_eq!(both.tables().withdrawn, [1, 0, 0, 0]);
+                let written = both.package_out(MAX_BYTES);
+                let again = entries(&written.expect("it is short")).expect("it is a package");
+                let versions = again.iter().filter_map(|entry| match entry {
+                    Entry::Change { version, .. } => Some(version.number()),
+                    Entry::Withdrawal { .. } => None,
+                });
+                // By timestamp.
+                assert!(versions.eq([third, first, second]));
+            }
+        }
+    });
+}
+
+/// Every byte as the last one of each entry: 0 and no other.
+#[test]
+fn the_last_byte_of_an_entry_is_0() {
+    with_seeds(|random, _| {
+        for entry in 0..4 {
+            for byte in 0..=255 {
+                let mut package = of_four_entries();
+                package[2 + ENTRY_BYTES * entry + 11] = byte;
+                let answer = take_in(random, &mut Both::just_set_up(4), &package);
+                assert_eq!(answer.err(), (byte > 0).then_some(3), "{byte}");
+            }
+        }
+    });
+}
+
 /// The byte at each place of a package set to each of these.
 #[test]
 fn every_byte_changed_has_the_same_answers() {
-    let entries = [
-        Entry::Change {
-            timestamp: 20,
-            program: vec![0; 16],
-        },
-        Entry::Withdrawal { timestamp: 15 },
-        Entry::Change {
-            timestamp: INFINITY - 1,
-            program: vec![0; 8],
-        },
-        Entry::Change {
-            timestamp: 1,
-            program: vec![],
-        },
-    ];
-    let package = lay_out(&entries);
+    let package = of_four_entries();
     with_seeds(|random, _| {
         for index in 0..package.len() {
             for byte in [0, 1, 2, 3, 4, 31, 32, 33, 64, 128, 254, 255] {

@@ -11,7 +11,7 @@ use comparison::seeds::{count_reached, with_seeds};
 use outside::package::{
     entries, lay_out, Entry, ANSWERS, DONE, ENTRY_BYTES, MAX_BYTES, MAX_ENTRIES,
 };
-use outside::program::{INSTRUCTION_BYTES, MAX_INSTRUCTIONS};
+use outside::program::{Version, INSTRUCTION_BYTES, MAX_INSTRUCTIONS};
 use outside::tables::{in_form, Status, Tables, MAX_CAPACITY};
 
 /// How many tables packages are written from, and how many larger ones.
@@ -36,6 +36,7 @@ fn package_out(both: &Both, room: usize, reached: &mut Reached<PackageEvent>) ->
     };
     let changes = in_order().map(|place| Entry::Change {
         timestamp: tables.timestamps[place],
+        version: tables.version(place),
         program: tables.program(place).to_vec(),
     });
     let withdrawn = in_order().filter(|&place| tables.withdrawn[place] == 1);
@@ -55,13 +56,19 @@ fn packages_out(random: &mut Random, both: &Both, reached: &mut Reached<PackageE
     }
 }
 
-/// Panics unless changes of every status, withdrawn or not, were written so often.
+/// Panics unless changes of every status and of both versions, withdrawn or not, were written so
+/// often.
 #[track_caller]
-fn assert_statuses(reached: &Reached<PackageEvent>, least: usize) {
+fn assert_changes(reached: &Reached<PackageEvent>, least: usize) {
     for status in [Status::New, Status::Valid, Status::Invalid] {
         reached.assert_at_least(least, PackageEvent::Change(status));
         reached.assert_at_least(least, PackageEvent::Withdrawn(status));
     }
+    for version in Version::ALL {
+        reached.assert_at_least(least, PackageEvent::Version(version));
+        reached.assert_at_least(least, PackageEvent::WithdrawnVersion(version));
+    }
+    reached.assert_at_least(least, PackageEvent::BothVersions);
 }
 
 #[test]
@@ -87,7 +94,7 @@ fn packages_of_any_tables_are_the_same() {
     for event in [PackageEvent::OfNone, PackageEvent::OneByteShort] {
         reached.assert_at_least(TABLES / 20, event);
     }
-    assert_statuses(&reached, TABLES / 20);
+    assert_changes(&reached, TABLES / 20);
 }
 
 /// Tables whose package passes one of its limits or comes near them.
@@ -116,7 +123,7 @@ fn packages_of_larger_tables_are_the_same() {
     ] {
         reached.assert_at_least(LARGER / 10, event);
     }
-    assert_statuses(&reached, LARGER / 10);
+    assert_changes(&reached, LARGER / 10);
 }
 
 /// The highest capacity, with few changes and with so many that every package is refused.
@@ -132,10 +139,11 @@ fn packages_of_tables_of_capacity_4096_are_the_same() {
 }
 
 /// A cabinet of capacity `n` that takes in changes of so many stops each, by falling timestamp, of
-/// which so many are withdrawn.
+/// which every second has version 1 and so many are withdrawn.
 fn holding(random: &mut Random, n: usize, stops: &[usize], withdrawn: usize) -> Both {
     let change = |(index, count): (usize, &usize)| Entry::Change {
         timestamp: (stops.len() - index) as u64,
+        version: Version::ALL[index % 2],
         program: vec![0; INSTRUCTION_BYTES * count],
     };
     let changes = stops.iter().enumerate().map(change);

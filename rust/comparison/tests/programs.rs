@@ -1,11 +1,13 @@
 //! The proved interpreter against the outside implementation, on programs.
 
+use comparison::own_writes::{self, OwnWrite};
 use comparison::reached::Reached;
 use comparison::seeds::count_reached;
 use comparison::{agree, generate, proved};
-use generate::{Random, Style, EXTREMES};
+use generate::{Random, Style, EXTREMES, NO_VERSIONS};
 use outside::program::{
-    self, op, Fault, Instruction, Malformed, Outcome, INSTRUCTION_BYTES, MAX_INSTRUCTIONS, SETTINGS,
+    self, op, Access, Fault, Instruction, Malformed, Outcome, Version, INSTRUCTION_BYTES,
+    MAX_INSTRUCTIONS, SETTINGS,
 };
 
 /// How many programs are run on the same values.
@@ -14,18 +16,26 @@ const PROGRAMS_TO_VALUES: usize = 64;
 /// How many random programs are compared.
 const PROGRAMS: usize = 4_700 * PROGRAMS_TO_VALUES;
 
-/// The refusal of a program by both, or 0.
+/// The refusal of a program of this version by both, or 0.
 #[track_caller]
-fn compare_form(program: &[u8]) -> u8 {
-    let outside = program::check(program).map_or_else(Malformed::refusal, |()| 0);
-    let proved = proved::refusal(program);
+fn compare_form_of(version: u16, program: &[u8]) -> u8 {
+    let outside = program::check(version, program).map_or_else(Malformed::refusal, |_| 0);
+    let proved = proved::refusal(version, program);
     assert!(
         proved == outside,
-        "proved {proved}, outside {outside} of {} bytes: {:#?}",
+        "proved {proved}, outside {outside} of version {version} and {} bytes: {:#?}",
         program.len(),
         listing(program),
     );
     outside
+}
+
+/// The refusal of a program by both, or 0, which is the same with both versions.
+#[track_caller]
+fn compare_form(program: &[u8]) -> u8 {
+    let [refusal, of_1] = [0, 1].map(|version| compare_form_of(version, program));
+    assert_eq!(refusal, of_1, "{:#?}", listing(program));
+    refusal
 }
 
 /// Storage for the runs of both, which keeps what earlier runs left there.
@@ -45,23 +55,55 @@ impl Runs {
         }
     }
 
-    /// The outcome of an accepted program by both.
+    /// The outcome of an accepted program by this version, by both.
     #[track_caller]
-    fn compare(&mut self, program: &[u8], values: &[i32; SETTINGS]) -> &Outcome {
-        proved::run_into(program, values, &mut self.proved).expect("the program is accepted");
-        self.places.clear();
-        program::run_visiting(program, values, &mut self.outside, |place| {
-            self.places.push(place)
+    fn compare_by(
+        &mut self,
+        version: Version,
+        program: &[u8],
+        values: &[i32; SETTINGS],
+    ) -> &Outcome {
+        let run = proved::run_into(version.number(), program, values, &mut self.proved);
+        run.expect("the program is accepted");
+        let places = &mut self.places;
+        places.clear();
+        program::run_visiting(version, program, values, &mut self.outside, |place, _| {
+            places.push(place)
         });
         assert!(
             agree(&self.proved, &self.outside),
-            "proved {:?}\noutside {:?}\nof {:#?}",
+            "proved {:?}\noutside {:?}\nby version {version:?} of {:#?}",
             self.proved,
             self.outside,
             listing(program),
         );
         &self.outside
     }
+
+    /// The outcomes of an accepted program by version 0 and by version 1, by both. They must be the
+    /// same, unless the run comes to a setting that it has written. Here stays what version 0 gives.
+    #[track_caller]
+    fn compare_versions(&mut self, program: &[u8], values: &[i32; SETTINGS]) -> [Outcome; 2] {
+        let by_1 = self.compare_by(Version::One, program, values).clone();
+        let by_0 = self.compare_by(Version::Zero, program, values).clone();
+        if !is_of_own_write(&by_0) {
+            assert_eq!(by_1, by_0, "{:#?}", listing(program));
+        }
+        [by_0, by_1]
+    }
+
+    /// The same, of which version 0 gives this one.
+    #[track_caller]
+    fn compare(&mut self, program: &[u8], values: &[i32; SETTINGS]) -> &Outcome {
+        self.compare_versions(program, values);
+        &self.outside
+    }
+}
+
+/// Whether a run faults at a setting that it has written.
+fn is_of_own_write(outcome: &Outcome) -> bool {
+    let fault = outcome.fault().map(|(fault, _)| fault);
+    matches!(fault, Some(Fault::ReadOfWritten | Fault::WrittenTwice))
 }
 
 fn listing(program: &[u8]) -> Vec<Instruction> {
@@ -99,9 +141,42 @@ enum Event {
     ReadOfWrittenReadBefore,
     FaultedAfterReads,
     FaultedAtPlace31,
+    /// By version 1, where version 0 faults at a setting that the run has written: it goes through,
+    /// and does so, or it faults later, by this operation.
+    CompletedBy1,
+    OwnWrite(OwnWrite),
+    FaultedLaterBy1(u8),
 }
 
-/// Counts what the last run shows.
+/// Counts what a run by version 1 shows, where version 0 faults at a setting that the run has
+/// written.
+fn count_run_by_1(
+    reached: &mut Reached<Event>,
+    program: &[u8],
+    values: &[i32; SETTINGS],
+    by_0: &Outcome,
+    by_1: &Outcome,
+) {
+    if !is_of_own_write(by_0) {
+        return;
+    }
+    let own_writes = own_writes::of_run(Version::One, program, values);
+    let Some((fault, place)) = by_1.fault() else {
+        reached.count(Event::CompletedBy1);
+        for own_write in own_writes {
+            reached.count(Event::OwnWrite(own_write));
+        }
+        return;
+    };
+    assert_eq!(fault, Fault::NoSuchSetting, "{:#?}", listing(program));
+    let (_, place_by_0) = by_0.fault().expect("it faults");
+    assert!(place > place_by_0, "{:#?}", listing(program));
+    let (instructions, _) = program.as_chunks();
+    let Instruction { op, .. } = Instruction::from_bytes(instructions[place]);
+    reached.count(Event::FaultedLaterBy1(op));
+}
+
+/// Counts what the last run shows, which was by version 0.
 fn count_run(reached: &mut Reached<Event>, program: &[u8], runs: &Runs) {
     let (instructions, _) = program.as_chunks();
     let at = |place: usize| Instruction::from_bytes(instructions[place]);
@@ -156,6 +231,7 @@ fn random_programs_have_the_same_form_and_the_same_outcome() {
             settings: 8,
             ..Style::ACCESSES
         },
+        Style::OWN_WRITES,
         Style::READS,
         Style::WRITES,
         Style::ARITHMETIC,
@@ -187,9 +263,16 @@ fn random_programs_have_the_same_form_and_the_same_outcome() {
                 refusal => Event::Refused(refusal),
             });
             if refusal == 0 {
-                runs.compare(&program, &values);
+                let [by_0, by_1] = runs.compare_versions(&program, &values);
+                count_run_by_1(reached, &program, &values, &by_0, &by_1);
                 count_run(reached, &program, &runs);
             }
+            let no_version = generate::no_version(random);
+            let refusal = match refusal {
+                6 => 6,
+                _ => 13,
+            };
+            assert_eq!(compare_form_of(no_version, &program), refusal);
         }
     });
 
@@ -225,6 +308,13 @@ fn random_programs_have_the_same_form_and_the_same_outcome() {
     }
     for event in [Event::Reads32, Event::Writes32, Event::FaultedAtPlace31] {
         reached.assert_at_least(PROGRAMS / 10_000, event);
+    }
+    reached.assert_at_least(PROGRAMS / 50, Event::CompletedBy1);
+    for own_write in OwnWrite::ALL {
+        reached.assert_at_least(PROGRAMS / 1_000, Event::OwnWrite(own_write));
+    }
+    for op in [op::READ_INDEXED, op::WRITE_INDEXED] {
+        reached.assert_at_least(PROGRAMS / 1_000, Event::FaultedLaterBy1(op));
     }
 }
 
@@ -266,15 +356,38 @@ fn every_instruction_at_the_bounds_has_the_same_form() {
     assert!(refused > 100_000, "{refused}");
 }
 
-/// Every length to 600 bytes, of stops, and of bytes that are refused 7 where the length is right.
+/// Every length to 600 bytes, of stops, and of bytes that are refused 7 where the length is right;
+/// both with versions that there are not, too.
 #[test]
 fn every_length_has_the_same_form() {
     for length in 0..=600 {
         let right = length <= 256 && length % 8 == 0;
-        assert_eq!(compare_form(&vec![0; length]), if right { 0 } else { 6 });
+        let (stops, malformed) = (vec![0; length], vec![255; length]);
+        assert_eq!(compare_form(&stops), if right { 0 } else { 6 });
         if length > 0 {
-            assert_eq!(compare_form(&vec![255; length]), if right { 7 } else { 6 });
+            assert_eq!(compare_form(&malformed), if right { 7 } else { 6 });
         }
+        for version in NO_VERSIONS {
+            for program in [&stops, &malformed] {
+                let refusal = compare_form_of(version, program);
+                assert_eq!(refusal, if right { 13 } else { 6 }, "version {version}");
+            }
+        }
+    }
+}
+
+/// All numbers of 16 bits as the version of a program that is right, and of one that is refused 7.
+#[test]
+fn every_version_has_the_same_form() {
+    for version in 0..=u16::MAX {
+        let none = version > 1;
+        for length in [0, 8, 256] {
+            let refusal = compare_form_of(version, &vec![0; length]);
+            assert_eq!(refusal, if none { 13 } else { 0 }, "version {version}");
+        }
+        let refusal = compare_form_of(version, &[255; 8]);
+        assert_eq!(refusal, if none { 13 } else { 7 }, "version {version}");
+        assert_eq!(compare_form_of(version, &[0; 7]), 6, "version {version}");
     }
 }
 
@@ -449,6 +562,115 @@ fn faults_after_full_lists_have_the_same_outcome() {
     }
 }
 
+/// A setting written again and read back, at the first place of the write list, at the second and at
+/// the last, after every number of writes that a program has room for; it was read before, or not.
+#[test]
+fn own_writes_in_full_lists_have_the_same_outcome() {
+    let values = [5; SETTINGS];
+    let access = |op, a, n| Instruction {
+        op,
+        a,
+        n,
+        ..Default::default()
+    };
+    let by_register = |op, a, b| Instruction {
+        op,
+        a,
+        b,
+        ..Default::default()
+    };
+    let mut runs = Runs::new();
+    let mut compared = 0;
+    for count in 1..MAX_INSTRUCTIONS as i32 {
+        for place in [0, 1.min(count - 1), count - 1] {
+            let setting = 33 * place;
+            let named = access(op::CONSTANT, 3, setting);
+            for (again, back) in [
+                (access(op::WRITE, 1, setting), access(op::READ, 2, setting)),
+                (
+                    by_register(op::WRITE_INDEXED, 1, 3),
+                    by_register(op::READ_INDEXED, 2, 3),
+                ),
+            ] {
+                for read_before in [false, true] {
+                    let mut program = vec![access(op::CONSTANT, 1, 9), named];
+                    if read_before {
+                        program.push(access(op::READ, 2, setting));
+                    }
+                    program.extend((0..count).map(|i| access(op::WRITE, 0, 33 * i)));
+                    program.extend([again, back, access(op::WRITE, 2, 1023)]);
+                    if program.len() > MAX_INSTRUCTIONS {
+                        continue;
+                    }
+                    let program = assemble(&program);
+                    let [by_0, by_1] = runs.compare_versions(&program, &values);
+                    let fault = 2 + usize::from(read_before) + count as usize;
+                    assert_eq!(by_0.fault(), Some((Fault::WrittenTwice, fault)));
+                    assert_eq!(by_1.fault(), None);
+                    let seen = (setting as u16, 5);
+                    let reads: &[_] = if read_before { &[seen] } else { &[] };
+                    assert_eq!(pairs(by_1.reads()), reads);
+                    let written = |i| (33 * i as u16, if i == place { 9 } else { 0 });
+                    let mut writes: Vec<(u16, i32)> = (0..count).map(written).collect();
+                    writes.push((1023, 9));
+                    assert_eq!(pairs(by_1.writes()), writes);
+                    compared += 1;
+                }
+            }
+        }
+    }
+    println!("compared {compared}");
+    assert_eq!(compared, 3 * 2 * (27 + 26));
+}
+
+fn pairs(list: &[Access]) -> Vec<(u16, i32)> {
+    list.iter().map(|x| (x.setting, x.value)).collect()
+}
+
+/// Every setting is written, read back and written again, by number and by register.
+#[test]
+fn own_writes_of_every_setting_have_the_same_outcome() {
+    let values = generate::values(&mut Random::new(0));
+    let mut runs = Runs::new();
+    for setting in 0..SETTINGS as i32 {
+        let access = |op, a| Instruction {
+            op,
+            a,
+            n: setting,
+            ..Default::default()
+        };
+        let by_register = |op, a| Instruction {
+            op,
+            a,
+            b: 3,
+            ..Default::default()
+        };
+        let [constant, named] = [access(op::CONSTANT, 1), access(op::CONSTANT, 3)];
+        let ones = Instruction {
+            op: op::COUNT_ONES,
+            a: 1,
+            b: 1,
+            ..Default::default()
+        };
+        for (write, read) in [
+            (access(op::WRITE, 1), access(op::READ, 2)),
+            (
+                by_register(op::WRITE_INDEXED, 1),
+                by_register(op::READ_INDEXED, 2),
+            ),
+            (access(op::WRITE, 1), by_register(op::READ_INDEXED, 2)),
+            (by_register(op::WRITE_INDEXED, 1), access(op::READ, 2)),
+        ] {
+            let program = [constant, named, write, read, ones, write, read];
+            let [by_0, by_1] = runs.compare_versions(&assemble(&program), &values);
+            assert_eq!(by_0.fault(), Some((Fault::ReadOfWritten, 3)));
+            let written = (setting as u16, setting.count_ones() as i32);
+            assert_eq!(pairs(by_1.writes()), [written]);
+            assert_eq!((by_1.reads().len(), by_1.fault()), (0, None));
+        }
+    }
+}
+
 /// The four lists that a run is lent, of any lengths.
 #[derive(Clone, Debug, PartialEq, Eq)]
 struct Lent {
@@ -470,9 +692,10 @@ impl Lent {
         }
     }
 
-    /// The proved run into these lists.
-    fn run(&mut self, program: &[u8], values: &[i32]) -> Result<u32, u8> {
+    /// The proved run by this version into these lists.
+    fn run(&mut self, version: u16, program: &[u8], values: &[i32]) -> Result<u32, u8> {
         proved::run_lent(
+            version,
             program,
             values,
             &mut self.read_settings,
@@ -523,20 +746,27 @@ fn lent_lists_hold_the_same_outcome_and_stay_past_it() {
         if random.below(3) == 0 {
             generate::damage(random, &mut program);
         }
+        let version = match random.below(8) {
+            0 => generate::no_version(random),
+            _ => generate::version(random).number(),
+        };
         let mut lent = Lent::filled(random, [MAX_INSTRUCTIONS; 4]);
         let mut expected = lent.clone();
-        let answer = program::check(&program).map_or_else(
+        let answer = program::check(version, &program).map_or_else(
             |malformed| Err(malformed.refusal()),
-            |()| {
-                let outcome = program::run(&program, &values);
+            |version| {
+                let outcome = program::run(version, &program, &values);
                 expected.put(&outcome);
+                let own_writes = own_writes::of_run(version, &program, &values);
+                let completed = outcome.fault().is_none() && !own_writes.is_empty();
+                reached.count_if(completed, Event::CompletedBy1);
                 Ok(number_of(&outcome))
             },
         );
         assert_eq!(
-            lent.run(&program, &*values),
+            lent.run(version, &program, &*values),
             answer,
-            "{:#?}",
+            "version {version} of {:#?}",
             listing(&program)
         );
         assert!(lent == expected, "{lent:?}\n{expected:?}");
@@ -549,15 +779,17 @@ fn lent_lists_hold_the_same_outcome_and_stay_past_it() {
     for event in [
         Event::Completed,
         Event::Accepted,
+        Event::CompletedBy1,
         Event::Refused(6),
+        Event::Refused(13),
         Event::Refused(7),
     ] {
         reached.assert_at_least(RUNS / 100, event);
     }
 }
 
-/// A list of another length than 32 is refused 1, whatever the program, and all lists stay. The
-/// outside has no lists of other lengths.
+/// A list of another length than 32 is refused 1, whatever the version and the program, and all lists
+/// stay. The outside has no lists of other lengths.
 #[test]
 fn lists_of_other_lengths_are_refused_and_stay() {
     let mut random = Random::new(0);
@@ -567,22 +799,72 @@ fn lists_of_other_lengths_are_refused_and_stay() {
         n: 5,
         ..Default::default()
     };
-    let programs = [vec![], assemble(&[write; 1]), vec![0; 7], vec![255; 8]];
-    for program in &programs {
+    let programs = [
+        (0, vec![]),
+        (1, assemble(&[write; 1])),
+        (0, vec![0; 7]),
+        (0, vec![255; 8]),
+        (2, vec![]),
+        (u16::MAX, vec![255; 9]),
+    ];
+    for (version, program) in &programs {
+        let version = *version;
         for list in 0..4 {
             for length in (0..=70).chain([1_024]).filter(|&n| n != MAX_INSTRUCTIONS) {
                 let mut lengths = [MAX_INSTRUCTIONS; 4];
                 lengths[list] = length;
                 let mut lent = Lent::filled(&mut random, lengths);
                 let before = lent.clone();
-                assert_eq!(lent.run(program, &*values), Err(1), "{lengths:?}");
+                let answer = lent.run(version, program, &*values);
+                assert_eq!(answer, Err(1), "{lengths:?}");
                 assert!(lent == before, "{lengths:?}");
             }
         }
         let mut lent = Lent::filled(&mut random, [MAX_INSTRUCTIONS - 1; 4]);
         let before = lent.clone();
-        assert_eq!(lent.run(program, &*values), Err(1));
+        assert_eq!(lent.run(version, program, &*values), Err(1));
         assert!(lent == before);
+    }
+}
+
+/// Each breach alone and each pair of 1, 6, 13 and 7: the first in this order is the answer.
+#[test]
+fn the_first_of_two_refusals_is_the_answer() {
+    const ORDER: [u8; 4] = [1, 6, 13, 7];
+    let mut random = Random::new(0);
+    let values = generate::values(&mut random);
+    for first in ORDER {
+        for second in ORDER {
+            let met = |refusal| first == refusal || second == refusal;
+            let instructions = if met(7) { 255 } else { 0 };
+            let versions: &[u16] = if met(13) { &NO_VERSIONS } else { &[0, 1] };
+            let lengths: &[usize] = if met(6) {
+                &[1, 7, 9, 255, 257, 264]
+            } else {
+                &[8, 256]
+            };
+            let slots: &[usize] = if met(1) { &[0, 31, 33] } else { &[32] };
+            let expected = ORDER.into_iter().find(|&refusal| met(refusal));
+            for &version in versions {
+                for &length in lengths {
+                    let program = vec![instructions; length];
+                    if !met(1) {
+                        assert_eq!(Some(compare_form_of(version, &program)), expected);
+                    }
+                    for &slots in slots {
+                        for list in 0..4 {
+                            let mut lengths = [MAX_INSTRUCTIONS; 4];
+                            lengths[list] = slots;
+                            let mut lent = Lent::filled(&mut random, lengths);
+                            let before = lent.clone();
+                            let answer = lent.run(version, &program, &*values);
+                            assert_eq!(answer.err(), expected, "{first} and {second}");
+                            assert!(lent == before, "{first} and {second}");
+                        }
+                    }
+                }
+            }
+        }
     }
 }
 
@@ -596,10 +878,11 @@ fn a_run_on_fewer_values_is_that_on_zeros_past_them() {
         let program = generate::program(&mut random, &Style::READS, MAX_INSTRUCTIONS);
         let mut lent = Lent::filled(&mut random, [MAX_INSTRUCTIONS; 4]);
         let mut expected = lent.clone();
-        let outcome = program::run(&program, &values);
+        let version = generate::version(&mut random);
+        let outcome = program::run(version, &program, &values);
         expected.put(&outcome);
         assert_eq!(
-            lent.run(&program, &values[..length]),
+            lent.run(version.number(), &program, &values[..length]),
             Ok(number_of(&outcome))
         );
         assert!(lent == expected, "{length} values");
@@ -609,11 +892,14 @@ fn a_run_on_fewer_values_is_that_on_zeros_past_them() {
 #[test]
 fn the_safe_forms_run_no_malformed_program() {
     let values = [0; SETTINGS];
-    assert!(proved::run(&[], &values).is_ok());
-    assert_eq!(proved::run(&[0; 264], &values).err(), Some(6));
-    assert_eq!(proved::run(&[0; 7], &values).err(), Some(6));
-    assert_eq!(
-        proved::run(&[18, 0, 0, 0, 0, 0, 0, 0], &values).err(),
-        Some(7)
-    );
+    let refusal = |version, program: &[u8]| proved::run(version, program, &values).err();
+    for version in [0, 1] {
+        assert_eq!(refusal(version, &[]), None);
+        assert_eq!(refusal(version, &[0; 264]), Some(6));
+        assert_eq!(refusal(version, &[0; 7]), Some(6));
+        assert_eq!(refusal(version, &[18, 0, 0, 0, 0, 0, 0, 0]), Some(7));
+    }
+    for version in NO_VERSIONS {
+        assert_eq!(refusal(version, &[]), Some(13));
+    }
 }

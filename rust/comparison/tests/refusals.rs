@@ -3,12 +3,13 @@
 use comparison::both::{Both, Query};
 use comparison::generate::packages;
 use comparison::generate::tables::{self as random_tables, Breach, List, Table};
-use comparison::generate::{self, Random, Style, REFUSED_TOTALS};
+use comparison::generate::{self, Random, Style, NO_VERSIONS, REFUSED_TOTALS};
 use comparison::packages_out::Size;
 use comparison::seeds::with_seeds;
 use outside::checker::TOTALS;
-use outside::package::{entries, lay_out, Entry, ANSWERS, MAX_BYTES, MAX_ENTRIES};
-use outside::program::{self, op, INSTRUCTION_BYTES, MAX_INSTRUCTIONS, SETTINGS};
+use outside::intake::Taken;
+use outside::package::{entries, lay_out, Entry, ALREADY_HELD, ANSWERS, MAX_BYTES, MAX_ENTRIES};
+use outside::program::{self, op, Version, INSTRUCTION_BYTES, MAX_INSTRUCTIONS, SETTINGS};
 use outside::tables::{check_lengths, in_form, Tables, INFINITY, PROGRAM_BYTES};
 
 /// How many inputs are made for each pair of refusals.
@@ -20,11 +21,12 @@ const INPUTS: usize = 40;
 /// form hold: where it meets 8 or 11, so does 2, which comes first.
 ///
 /// All others meet: also 6 and 7, since one is about the length of a program and the other about its
-/// instructions. For the same reason as above 4 always meets 10.
+/// instructions, and 13 and 8, since a version above 1 is another than that of any held program. For
+/// the same reason as above 4 always meets 10.
 const NEVER_MET: [(u8, u8); 4] = [(4, 8), (4, 11), (8, 9), (10, 11)];
 
-/// Breaches of form that change no held count, timestamp, flag and program, so that what is held, and
-/// how, is as plain as in tables in form.
+/// Breaches of form that change no held count, timestamp, flag, version and program, so that what is
+/// held, and how, is as plain as in tables in form.
 const BREACHES: [Breach; 5] = [
     Breach::StatusAbove2,
     Breach::CountAbove32(List::Reads),
@@ -65,7 +67,7 @@ impl Call {
     /// What the call is turned down for, in checking order.
     fn refusals(self) -> &'static [u8] {
         match self {
-            Self::TakeIn => &[1, 2, 4, 6, 7, 8, 9],
+            Self::TakeIn => &[1, 2, 4, 6, 13, 7, 8, 9],
             Self::Withdraw => &[1, 2, 4, 10, 11],
             Self::TakeInPackage => &[1, 2, 3],
             Self::Turn | Self::Drain | Self::PlainRun => &[1, 2],
@@ -98,6 +100,7 @@ struct Input {
     n: usize,
     tables: Tables,
     timestamp: u64,
+    version: u16,
     program: Vec<u8>,
     package: Vec<u8>,
     setting: usize,
@@ -130,10 +133,18 @@ impl Input {
             _ if met(10) => not_held(random, &tables),
             _ => tables.timestamps[standing],
         };
+        let mut version = generate::version(random);
+        let mut program = not_held_program(random, &tables);
+        // Some have the held program with the other version. An instruction is needed to meet 7.
+        if met(8) && tables.lengths[standing] > 0 && random.below(2) == 0 {
+            version = generate::other_version(tables.version(standing));
+            program = tables.program(standing).to_vec();
+        }
         let mut input = Self {
             call,
             n,
-            program: not_held_program(random, &tables),
+            version: version.number(),
+            program,
             package: lay_out(&packages::entries(random, &tables.timestamps[..held])),
             room: Size::of(&tables).bytes + random.pick(&[0, 0, 1, MAX_BYTES]),
             tables,
@@ -180,6 +191,7 @@ impl Input {
                 // More instructions are stops.
                 self.program.resize(length, 0);
             }
+            (13, _) => self.version = generate::no_version(random),
             (7, _) => self.program[0] = op::COUNT + random.below(200) as u8,
             (12, _) => {
                 let needed = Size::of(&self.tables).bytes;
@@ -211,12 +223,16 @@ impl Input {
                 let length = self.program.len();
                 length > PROGRAM_BYTES || !length.is_multiple_of(INSTRUCTION_BYTES)
             }
+            13 => self.version > 1,
             7 => {
                 let (instructions, _) = self.program.as_chunks::<INSTRUCTION_BYTES>();
                 let most = instructions.len().min(MAX_INSTRUCTIONS);
-                program::check(instructions[..most].as_flattened()).is_err()
+                program::check(0, instructions[..most].as_flattened()).is_err()
             }
-            8 => place.is_some_and(|place| self.tables.program(place) != self.program),
+            8 => place.is_some_and(|place| {
+                self.tables.versions[place] != self.version
+                    || self.tables.program(place) != self.program
+            }),
             9 => place.is_none() && self.tables.held_count() == self.n,
             10 => place.is_none(),
             11 => place.is_some_and(|place| self.tables.withdrawn[place] == 1),
@@ -235,7 +251,7 @@ impl Input {
         let mut both = Both::new(self.n, self.tables.clone());
         let (timestamp, setting) = (self.timestamp, self.setting);
         match self.call {
-            Call::TakeIn => both.take_in(timestamp, &self.program).err(),
+            Call::TakeIn => both.take_in(timestamp, self.version, &self.program).err(),
             Call::Withdraw => both.withdraw(timestamp).err(),
             Call::TakeInPackage => {
                 let mut answers = packages::answers(random, self.answers);
@@ -254,14 +270,15 @@ impl Input {
         }
     }
 
-    /// The same as the only entry of a package, where it is a change or a withdrawal and tables and
-    /// program have the lengths and the form for it.
+    /// The same as the only entry of a package, where it is a change or a withdrawal and tables,
+    /// version and program have the lengths and the form for it.
     fn entry(&self, refusals: &[u8]) -> Option<Entry> {
         let timestamp = self.timestamp;
         match self.call {
             _ if refusals.iter().any(|refusal| [1, 2, 6].contains(refusal)) => None,
             Call::TakeIn => Some(Entry::Change {
                 timestamp,
+                version: Version::from_number(self.version)?,
                 program: self.program.clone(),
             }),
             Call::Withdraw => Some(Entry::Withdrawal { timestamp }),
@@ -342,4 +359,50 @@ fn a_timestamp_that_is_none_is_held_by_no_tables_in_form() {
             }
         }
     });
+}
+
+/// Every held change once more: with its version it is already held, with the other one 8, and with
+/// one above 1 it is 13, withdrawn or not, full or not, by itself and as the entry of a package.
+#[test]
+fn a_held_program_with_another_version_is_refused() {
+    let [withdrawn, full] = with_seeds(|random, share| {
+        let [mut withdrawn, mut full] = [0; 2];
+        for index in 0..share.of(INPUTS) {
+            let n = 2 + random.below(12);
+            let held = n - index % 2;
+            let tables = random_tables::in_form(random, n, held);
+            for place in 0..held {
+                let (timestamp, version) = (tables.timestamps[place], tables.version(place));
+                let program = tables.program(place).to_vec();
+                let other = generate::other_version(version);
+                let mut both = Both::new(n, tables.clone());
+                for (version, answer, byte) in [
+                    (version, Ok(Taken::AlreadyHeld), ALREADY_HELD),
+                    (other, Err(8), 8),
+                ] {
+                    let taken = both.take_in(timestamp, version.number(), &program);
+                    assert_eq!(taken, answer);
+                    let program = program.clone();
+                    let package = lay_out(&[Entry::Change {
+                        timestamp,
+                        version,
+                        program,
+                    }]);
+                    let mut answers = packages::answers(random, ANSWERS);
+                    let taken = both.take_in_package(&package, &mut answers);
+                    assert_eq!((taken, answers[0]), (Ok(()), byte));
+                }
+                for version in NO_VERSIONS {
+                    assert_eq!(both.take_in(timestamp, version, &program), Err(13));
+                }
+                assert!(*both.tables() == tables, "all is as it was");
+                withdrawn += usize::from(tables.withdrawn[place]);
+                full += usize::from(held == n);
+            }
+        }
+        [withdrawn, full]
+    });
+    println!("{withdrawn} withdrawn, {full} where the tables are full");
+    assert!(withdrawn >= INPUTS / 4, "{withdrawn}");
+    assert!(full >= INPUTS, "{full}");
 }

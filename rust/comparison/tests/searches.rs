@@ -2,7 +2,7 @@
 //! and write lists of any contents, and against value as of on tables that calls reach.
 
 use comparison::both::{Answer, Both, Query};
-use comparison::generate::scripts::Source;
+use comparison::generate::scripts::{Change, Source};
 use comparison::generate::write_lists::WriteLists;
 use comparison::generate::Random;
 use comparison::proved::searches::{search, search_lent, Searched};
@@ -497,8 +497,13 @@ fn drained(random: &mut Random, source: &mut Source, n: usize) -> Both {
     let mut both = Both::just_set_up(n);
     for _ in 0..n - random.below(2) {
         let change = source.new_change(random);
-        let (timestamp, program) = change.expect("there are timestamps left");
-        assert_eq!(both.take_in(timestamp, &program), Ok(Taken::Done));
+        let Change {
+            timestamp,
+            version,
+            program,
+        } = change.expect("there are timestamps left");
+        let taken = both.take_in(timestamp, version.number(), &program);
+        assert_eq!(taken, Ok(Taken::Done));
         if random.below(8) == 0 {
             assert!(both.drain(&mut [0; TOTALS]).is_ok());
             assert_eq!(both.withdraw(timestamp), Ok(()));

@@ -4,6 +4,7 @@
 use comparison::both::{Answer, Both, Query};
 use comparison::generate::tables::{self as random_tables, Breach, Table};
 use comparison::generate::{self, packages, Random};
+use comparison::own_writes::{self, OwnWrite};
 use comparison::packages_out::{self, PackageEvent};
 use comparison::proved::calls as proved;
 use comparison::reached::Reached;
@@ -11,9 +12,10 @@ use comparison::seeds::{count_reached, with_seeds};
 use outside::calls::Refusal;
 use outside::checker::TOTALS;
 use outside::package::{ANSWERS, MAX_BYTES};
-use outside::program::{self, SETTINGS};
+use outside::program::{self, Version, SETTINGS};
 use outside::start::{settings_at_start, start_value};
 use outside::tables::{in_form, Status, Tables, INFINITY, LIST_ENTRIES, MAX_CAPACITY};
+use std::collections::BTreeSet;
 
 /// How many random tables calls are made on.
 const TABLES: usize = 8_000;
@@ -119,6 +121,8 @@ enum Event {
     PlainRunFaults,
     PlainRunReadsBack,
     PlainRunOverwrites,
+    /// A change of version 1 does so and does not fault.
+    PlainRunOwnWrite(OwnWrite),
     PlainRunRefused(u8),
     SetUp,
     SetUpRefused(u8),
@@ -191,13 +195,18 @@ fn count_plain_run(reached: &mut Reached<Event>, tables: &Tables) {
     let mut settings = settings_at_start();
     let mut written = [false; SETTINGS];
     let [mut passes_over, mut faults, mut reads_back, mut overwrites] = [false; 4];
+    let mut own_writes = BTreeSet::new();
     for place in tables.order[..held].iter().copied().map(usize::from) {
         if tables.withdrawn[place] == 1 {
             passes_over = true;
             continue;
         }
-        let outcome = program::run(tables.program(place), &settings);
+        let (version, program) = (tables.version(place), tables.program(place));
+        let outcome = program::run(version, program, &settings);
         faults |= outcome.fault().is_some();
+        if outcome.fault().is_none() {
+            own_writes.extend(own_writes::of_run(version, program, &settings));
+        }
         reads_back |= outcome
             .reads()
             .iter()
@@ -213,6 +222,9 @@ fn count_plain_run(reached: &mut Reached<Event>, tables: &Tables) {
     reached.count_if(faults, Event::PlainRunFaults);
     reached.count_if(reads_back, Event::PlainRunReadsBack);
     reached.count_if(overwrites, Event::PlainRunOverwrites);
+    for own_write in own_writes {
+        reached.count(Event::PlainRunOwnWrite(own_write));
+    }
 }
 
 #[test]
@@ -315,6 +327,18 @@ fn random_tables_have_the_same_answers() {
             reached.assert_at_least(TABLES / 50, Event::PackageOut(event));
         }
     }
+    for version in Version::ALL {
+        for event in [
+            PackageEvent::Version(version),
+            PackageEvent::WithdrawnVersion(version),
+            PackageEvent::BothVersions,
+        ] {
+            reached.assert_at_least(TABLES / 50, Event::PackageOut(event));
+        }
+    }
+    for own_write in OwnWrite::ALL {
+        reached.assert_at_least(TABLES / 500, Event::PlainRunOwnWrite(own_write));
+    }
 }
 
 /// Random tables with this breach.
@@ -370,6 +394,37 @@ fn every_breach_of_form_is_refused_at_capacity_4096() {
         };
         reached.assert_at_least(least, Event::Broken(breach));
     }
+}
+
+/// Each place of tables in form alone with a version that it cannot have: one above 1 where it is
+/// held, and any but 0 where it is not.
+#[test]
+fn every_place_with_a_wrong_version_is_refused() {
+    let refused = with_seeds(|random, share| {
+        let mut refused = 0;
+        for index in 0..share.of(8) {
+            let (n, held) = (6, index % 7);
+            let in_form = random_tables::in_form(random, n, held);
+            for place in 0..n {
+                let wrong: &[u16] = match place < held {
+                    true => &[2, 3, 255, 256, 257, u16::MAX],
+                    false => &[1, 2, 255, 256, 257, u16::MAX],
+                };
+                for &version in wrong {
+                    let mut tables = in_form.clone();
+                    tables.versions[place] = version;
+                    assert_not_in_form(random, Both::new(n, tables));
+                    refused += 1;
+                }
+                let mut tables = in_form.clone();
+                tables.versions[place] = u16::from(place < held);
+                let both = Both::new(n, tables);
+                assert!(both.ask(Query::CurrentValue(0)).is_ok());
+            }
+        }
+        refused
+    });
+    assert_eq!(refused, 8 * 6 * 6);
 }
 
 #[test]

@@ -1,13 +1,13 @@
 //! Demand 3: the book, the fresh run, and what is claimed of the tables and of the turns after a
 //! drain.
 //!
-//! Document 01, "Demand 3 spelled out", and document 02, R-2 and R-5. Nothing here uses the Checker:
-//! it looks at calls as they were made and answered, by whatever implementation, and at the tables
-//! that they left.
+//! Document 01, "Demand 3 spelled out", and document 02, R-2, R-5 and R-6. Nothing here uses the
+//! Checker: it looks at calls as they were made and answered, by whatever implementation, and at the
+//! tables that they left.
 
 use crate::checker::{Turn, Turned, CONSOLES, KINDS, TOTALS};
 use crate::package::{entries, Entry, DONE};
-use crate::program::{self, Access, SETTINGS};
+use crate::program::{self, Access, Version, SETTINGS};
 use crate::start::settings_at_start;
 use crate::tables::Tables;
 use std::collections::{BTreeMap, BTreeSet};
@@ -20,6 +20,7 @@ use std::iter;
 pub enum Call {
     TakeIn {
         timestamp: u64,
+        version: u16,
         program: Vec<u8>,
         answer: u8,
     },
@@ -121,6 +122,7 @@ pub fn check(calls: &[Call], tables: &Tables) -> Result<(), Breach> {
 pub(crate) struct Book(BTreeMap<u64, Booked>);
 
 struct Booked {
+    version: Version,
     program: Vec<u8>,
     withdrawn: bool,
 }
@@ -133,9 +135,15 @@ impl Book {
             match call {
                 Call::TakeIn {
                     timestamp,
+                    version,
                     program,
                     answer: DONE,
-                } => book.enter(*timestamp, program.clone()),
+                } => {
+                    // Above 1 there is none to run it by: answered done, it is missing in the book.
+                    if let Some(version) = Version::from_number(*version) {
+                        book.enter(*timestamp, version, program.clone());
+                    }
+                }
                 Call::Withdraw {
                     timestamp,
                     answer: DONE,
@@ -151,10 +159,15 @@ impl Book {
         book
     }
 
-    /// "A taking in answered done enters its timestamp and program, not withdrawn."
-    fn enter(&mut self, timestamp: u64, program: Vec<u8>) {
-        let withdrawn = false;
-        self.0.insert(timestamp, Booked { program, withdrawn });
+    /// "A taking in answered done enters its timestamp and program, not withdrawn." The version is
+    /// "kept with the change" (document 02, R-6).
+    fn enter(&mut self, timestamp: u64, version: Version, program: Vec<u8>) {
+        let booked = Booked {
+            version,
+            program,
+            withdrawn: false,
+        };
+        self.0.insert(timestamp, booked);
     }
 
     /// "A withdrawal answered done marks that timestamp withdrawn."
@@ -170,7 +183,11 @@ impl Book {
         for (entry, &answer) in entries.into_iter().zip(answers) {
             match entry {
                 _ if answer != DONE => {}
-                Entry::Change { timestamp, program } => self.enter(timestamp, program),
+                Entry::Change {
+                    timestamp,
+                    version,
+                    program,
+                } => self.enter(timestamp, version, program),
                 Entry::Withdrawal { timestamp } => self.mark_withdrawn(timestamp),
             }
         }
@@ -181,6 +198,7 @@ impl Book {
     pub(crate) fn entries(&self) -> Vec<Entry> {
         let changes = self.0.iter().map(|(&timestamp, booked)| Entry::Change {
             timestamp,
+            version: booked.version,
             program: booked.program.clone(),
         });
         let withdrawn = self.0.iter().filter(|(_, booked)| booked.withdrawn);
@@ -201,9 +219,10 @@ impl Book {
                 answer: None,
             };
             // "A withdrawn change is passed over; its lists are empty. Any other is run by its
-            // instructions on those settings as they then stand."
+            // instructions on those settings as they then stand." "The drained state is that of
+            // running each change by its own version." (document 02, R-6)
             if !booked.withdrawn {
-                let outcome = program::run(&booked.program, &settings);
+                let outcome = program::run(booked.version, &booked.program, &settings);
                 fresh.reads = outcome.reads().to_vec();
                 fresh.writes = outcome.writes().to_vec();
                 fresh.answer = Some(Turned::by_run(&outcome));

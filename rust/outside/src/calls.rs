@@ -19,9 +19,10 @@ pub enum Refusal {
     Timestamp,
     /// "5. The setting number is above 1,023."
     Setting,
-    /// 6 or 7, which are about the program alone.
+    /// 6, 13 or 7, in this order, which are about the program alone.
     Program(Malformed),
-    /// "8. The timestamp is held with another program."
+    /// "8. The timestamp is held with another program." Or with another version, which "is part of
+    /// the program" (document 02, R-6).
     OtherProgram,
     /// "9. The held count equals N and the timestamp is not held."
     Full,
@@ -109,7 +110,7 @@ pub fn standing(n: usize, tables: &Tables, timestamp: u64) -> Result<Standing, R
 
 /// "The plain run starts its own 1,024 settings" at the start values (document 02, R-1) "and writes
 /// to a lent slice of 1,024 what all held changes leave, run in timestamp order, withdrawn ones
-/// passed over."
+/// passed over." Each runs by its own version (document 02, R-6).
 pub fn plain_run(n: usize, tables: &Tables, lent: &mut [i32]) -> Result<(), Refusal> {
     refuse_unless(lent.len() == SETTINGS, Refusal::Length)?;
     check(n, tables)?;
@@ -119,7 +120,7 @@ pub fn plain_run(n: usize, tables: &Tables, lent: &mut [i32]) -> Result<(), Refu
     places.sort_unstable_by_key(|&place| tables.timestamps[place]);
     let mut settings = settings_at_start();
     for place in places {
-        let outcome = program::run(tables.program(place), &settings);
+        let outcome = program::run(tables.version(place), tables.program(place), &settings);
         for write in outcome.writes() {
             settings[usize::from(write.setting)] = write.value;
         }

@@ -1,10 +1,10 @@
 //! The Checker: the calls turn and drain.
 //!
 //! Figure 1 of source document 004, whose names and comments stand in the code, with what document
-//! 01, "A turn", and document 02, R-2 and R-5, add.
+//! 01, "A turn", and document 02, R-2, R-5 and R-6, add.
 
 use crate::calls::{check, refuse_unless, Refusal};
-use crate::program::{self, Access, Outcome, SETTINGS};
+use crate::program::{self, Access, Outcome, Version, SETTINGS};
 use crate::start::{settings_at_start, start_value};
 use crate::tables::{Status, Tables, INFINITY};
 use std::collections::{BTreeMap, BTreeSet};
@@ -106,6 +106,7 @@ pub fn drain(n: usize, tables: &mut Tables, totals: &mut [u16]) -> Result<(), Re
 
 /// A change, as source document 004 speaks of it.
 struct Update {
+    version: Version,
     program: Vec<u8>,
     status: Status,
     withdrawn: bool,
@@ -137,6 +138,7 @@ impl History {
     /// What tables in form hold.
     fn of(tables: &Tables) -> Self {
         let update = |place| Update {
+            version: tables.version(place),
             program: tables.program(place).to_vec(),
             status: tables.status(place),
             withdrawn: tables.withdrawn[place] != 0,
@@ -226,8 +228,8 @@ impl History {
             self.mark_valid(t);
             Turned::Stood
         } else {
-            // execute update T
-            let outcome = program::run(&update.program, &self.values_upto(t));
+            // execute update T, "running each change by its own version" (document 02, R-6)
+            let outcome = program::run(update.version, &update.program, &self.values_upto(t));
             self.install(t, outcome.reads().to_vec(), outcome.writes().to_vec());
             Turned::by_run(&outcome)
         };

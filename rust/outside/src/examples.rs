@@ -21,6 +21,7 @@ pub struct Change {
     pub timestamp: u64,
     pub status: u16,
     pub withdrawn: u16,
+    pub version: u16,
     pub program: Vec<Instruction>,
     /// The read list with the values seen.
     pub reads: Vec<(u16, i32)>,
@@ -38,6 +39,7 @@ pub fn tables(n: usize, order: &[u16], changes: &[Change]) -> Tables {
         tables.timestamps[place] = change.timestamp;
         tables.status[place] = change.status;
         tables.withdrawn[place] = change.withdrawn;
+        tables.versions[place] = change.version;
         tables.lengths[place] = change.program.len() as u16;
         for (index, byte) in change.program.iter().flat_map(|i| i.to_bytes()).enumerate() {
             tables.programs[PROGRAM_BYTES * place + index] = byte;
@@ -59,8 +61,8 @@ pub fn tables(n: usize, order: &[u16], changes: &[Change]) -> Tables {
 /// Tables of capacity 6 that hold four changes, which calls can leave so:
 ///
 /// - place 0: 30 copies 34 to 50, Valid;
-/// - place 1: 10 sets 34 to 7 and 40 to 3, Valid;
-/// - place 2: 40 sets 34 to −5, withdrawn and Invalid, its turn to come;
+/// - place 1: 10 sets 34 to 7 and 40 to 3, Valid, version 1;
+/// - place 2: 40 sets 34 to −5, withdrawn and Invalid, its turn to come, version 1;
 /// - place 3: 20 sets 34 to 9, New.
 pub fn four_changes() -> Tables {
     let mut tables = tables(
@@ -78,6 +80,7 @@ pub fn four_changes() -> Tables {
             Change {
                 timestamp: 10,
                 status: VALID,
+                version: 1,
                 program: [set(34, 7), set(40, 3)].concat(),
                 writes: vec![(34, 7), (40, 3)],
                 ..Change::default()
@@ -86,6 +89,7 @@ pub fn four_changes() -> Tables {
                 timestamp: 40,
                 status: INVALID,
                 withdrawn: 1,
+                version: 1,
                 program: set(34, -5),
                 writes: vec![(34, -5)],
                 ..Change::default()
@@ -105,6 +109,7 @@ pub fn four_changes() -> Tables {
 }
 
 /// A list of calls, made one after the other on tables just set up.
+#[derive(Clone)]
 pub struct Script {
     n: usize,
     pub tables: Tables,
@@ -120,22 +125,29 @@ impl Script {
         }
     }
 
-    /// Takes in a change, which must be answered done.
+    /// Takes in a change of version 0, which must be answered done.
     #[track_caller]
     pub fn take_in(&mut self, timestamp: u64, program: &[Instruction]) {
-        assert_eq!(self.try_take_in(timestamp, program), DONE);
+        assert_eq!(self.try_take_in(timestamp, 0, program), DONE);
+    }
+
+    /// Takes in a change of version 1, which must be answered done.
+    #[track_caller]
+    pub fn take_in_1(&mut self, timestamp: u64, program: &[Instruction]) {
+        assert_eq!(self.try_take_in(timestamp, 1, program), DONE);
     }
 
     /// Takes in a change and returns the answer.
-    pub fn try_take_in(&mut self, timestamp: u64, program: &[Instruction]) -> u8 {
+    pub fn try_take_in(&mut self, timestamp: u64, version: u16, program: &[Instruction]) -> u8 {
         let program = assemble(program);
-        let answer = match take_in(self.n, &mut self.tables, timestamp, &program) {
+        let answer = match take_in(self.n, &mut self.tables, timestamp, version, &program) {
             Ok(Taken::Done) => DONE,
             Ok(Taken::AlreadyHeld) => ALREADY_HELD,
             Err(refusal) => refusal.number(),
         };
         self.calls.push(Call::TakeIn {
             timestamp,
+            version,
             program,
             answer,
         });
@@ -220,6 +232,13 @@ impl Script {
         let reads = self.tables.read_list(place);
         reads.map(|read| (read.setting, read.value)).collect()
     }
+
+    /// The write list of a change.
+    pub fn writes(&self, timestamp: u64) -> Vec<(u16, i32)> {
+        let place = self.tables.place_of(timestamp).expect("it is held");
+        let writes = self.tables.write_list(place);
+        writes.map(|write| (write.setting, write.value)).collect()
+    }
 }
 
 /// The settings that differ from their start.
@@ -235,7 +254,7 @@ pub fn not_zero(totals: &[u16]) -> Vec<(usize, u16)> {
     totals.filter(|&(_, total)| total != 0).collect()
 }
 
-/// The package whose entries have these timestamps, kinds and bodies.
+/// The package whose entries have these timestamps, kinds and bodies, and version 0.
 pub fn package(entries: &[(u64, u8, &[Instruction])]) -> Vec<u8> {
     let count = entries.len() as u16;
     let mut package = count.to_le_bytes().to_vec();
@@ -247,6 +266,11 @@ pub fn package(entries: &[(u64, u8, &[Instruction])]) -> Vec<u8> {
         package.extend(assemble(body));
     }
     package
+}
+
+/// Gives an entry of a package another version.
+pub fn set_version(package: &mut [u8], entry: usize, version: u8) {
+    package[2 + ENTRY_BYTES * entry + 10] = version;
 }
 
 /// Document 01's package of 70 bytes: "20 (copy 34 to 50), 10 (set 34 to 7), withdrawal of 15".

@@ -9,7 +9,7 @@
 use crate::book::{Book, Call};
 use crate::calls::Refusal;
 use crate::package::{entries, Entry, DONE, ENTRY_BYTES, MAX_BYTES, MAX_ENTRIES};
-use crate::program::{Access, SETTINGS};
+use crate::program::{Access, Version, SETTINGS};
 use crate::tables::{Status, Tables};
 use std::collections::BTreeMap;
 
@@ -29,7 +29,7 @@ pub enum Breach {
     Answer(usize),
     /// The filled cabinet does not hold the neighbour's timestamps and no others.
     Timestamps,
-    /// Program, flag, status or lists of this timestamp are not the neighbour's.
+    /// Version, program, flag, status or lists of this timestamp are not the neighbour's.
     Change(u64),
     /// This setting of the view is not the neighbour's.
     View(usize),
@@ -79,6 +79,7 @@ pub fn check_filled(answers: &[u8], filled: &Tables, neighbour: &Tables) -> Resu
 /// What tables hold of a change, wherever its place is.
 #[derive(PartialEq)]
 struct State {
+    version: Version,
     program: Vec<u8>,
     withdrawn: bool,
     status: Status,
@@ -90,6 +91,7 @@ struct State {
 impl State {
     fn by_timestamp(tables: &Tables) -> BTreeMap<u64, Self> {
         let state = |place| Self {
+            version: tables.version(place),
             program: tables.program(place).to_vec(),
             withdrawn: tables.withdrawn[place] != 0,
             status: tables.status(place),

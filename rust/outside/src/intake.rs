@@ -1,6 +1,6 @@
 //! The calls that take in a change and withdraw one.
 //!
-//! Document 01, "Calls" and "Turned down, in checking order".
+//! Document 01, "Calls" and "Turned down, in checking order"; document 02, R-6.
 
 use crate::calls::{check, check_timestamp, refuse_unless, Refusal};
 use crate::program::{self, INSTRUCTION_BYTES};
@@ -12,19 +12,22 @@ pub enum Taken {
     /// The change is taken in.
     Done,
     /// "The same timestamp with the same program bytes answers already held, withdrawn or not, full
-    /// or not, and alters nothing."
+    /// or not, and alters nothing." And with the same version, which "is part of the program when a
+    /// timestamp is already held" (document 02, R-6).
     AlreadyHeld,
 }
 
-/// "take in (the next place, New, not withdrawn, lists empty)".
+/// "take in (the next place, New, not withdrawn, lists empty)". The version may be any number: one
+/// above 1 is refused.
 pub fn take_in(
     n: usize,
     tables: &mut Tables,
     timestamp: u64,
+    version: u16,
     program: &[u8],
 ) -> Result<Taken, Refusal> {
     check(n, tables)?;
-    take_in_checked(tables, timestamp, program)
+    take_in_checked(tables, timestamp, version, program)
 }
 
 /// "withdraw": "Withdrawing sets the flag; Valid becomes Invalid."
@@ -37,12 +40,14 @@ pub fn withdraw(n: usize, tables: &mut Tables, timestamp: u64) -> Result<(), Ref
 pub(crate) fn take_in_checked(
     tables: &mut Tables,
     timestamp: u64,
+    version: u16,
     program: &[u8],
 ) -> Result<Taken, Refusal> {
     check_timestamp(timestamp)?;
-    program::check(program).map_err(Refusal::Program)?;
+    let version = program::check(version, program).map_err(Refusal::Program)?;
     if let Some(place) = tables.place_of(timestamp) {
-        refuse_unless(tables.program(place) == program, Refusal::OtherProgram)?;
+        let same = tables.version(place) == version && tables.program(place) == program;
+        refuse_unless(same, Refusal::OtherProgram)?;
         return Ok(Taken::AlreadyHeld);
     }
     let place = tables.held_count();
@@ -51,6 +56,7 @@ pub(crate) fn take_in_checked(
     // What is not stored to here is 0 at a place that is not held: New, not withdrawn, lists empty.
     tables.held[0] += 1;
     tables.timestamps[place] = timestamp;
+    tables.versions[place] = version.number();
     tables.lengths[place] = (program.len() / INSTRUCTION_BYTES) as u16;
     tables.programs[PROGRAM_BYTES * place..][..program.len()].copy_from_slice(program);
     // "order (N, the places by rising timestamp)".

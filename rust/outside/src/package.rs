@@ -1,10 +1,10 @@
 //! The layout of a package, and the calls that take one in and write one.
 //!
-//! Document 01, "Calls", and refusal 3 of "Turned down, in checking order"; document 02, R-3.
+//! Document 01, "Calls", and refusal 3 of "Turned down, in checking order"; document 02, R-3 and R-6.
 
 use crate::calls::{check, refuse_unless, Refusal};
 use crate::intake::{take_in_checked, withdraw_checked, Taken};
-use crate::program::{INSTRUCTION_BYTES, MAX_INSTRUCTIONS};
+use crate::program::{Version, INSTRUCTION_BYTES, MAX_INSTRUCTIONS};
 use crate::tables::Tables;
 use std::collections::BTreeMap;
 
@@ -30,8 +30,14 @@ pub const ALREADY_HELD: u8 = 255;
 #[derive(Clone, Debug, PartialEq, Eq)]
 #[allow(missing_docs)]
 pub enum Entry {
-    Change { timestamp: u64, program: Vec<u8> },
-    Withdrawal { timestamp: u64 },
+    Change {
+        timestamp: u64,
+        version: Version,
+        program: Vec<u8>,
+    },
+    Withdrawal {
+        timestamp: u64,
+    },
 }
 
 /// The entries of a package, or none if it "breaks its layout or length".
@@ -40,6 +46,10 @@ pub enum Entry {
 /// timestamp (8), kind (0 change, 1 withdrawal), instruction count (0 to 32, and 0 for a
 /// withdrawal), two zero bytes. Bodies follow in that order without gaps. All numbers are low byte
 /// first. Its length is at most 65,535 and fits exactly."
+///
+/// "The first zero byte of a package entry becomes the version, 0 or 1, kept with the change. [..] A
+/// withdrawal has version 0. [..] A direct call with a version above 1 gets refusal 13, just after 6;
+/// in a package that is refusal 3." (document 02, R-6)
 pub fn entries(package: &[u8]) -> Option<Vec<Entry>> {
     let (&count, rest) = package.split_first_chunk()?;
     let count = usize::from(u16::from_le_bytes(count));
@@ -49,20 +59,24 @@ pub fn entries(package: &[u8]) -> Option<Vec<Entry>> {
     let (contents, mut bodies) = rest.split_at_checked(ENTRY_BYTES * count)?;
     let (contents, _) = contents.as_chunks::<ENTRY_BYTES>();
     let mut entries = Vec::with_capacity(count);
-    for &[t0, t1, t2, t3, t4, t5, t6, t7, kind, instructions, zero, zero_too] in contents {
+    for &[t0, t1, t2, t3, t4, t5, t6, t7, kind, instructions, version, zero] in contents {
         let timestamp = u64::from_le_bytes([t0, t1, t2, t3, t4, t5, t6, t7]);
         let instructions = usize::from(instructions);
-        if instructions > MAX_INSTRUCTIONS || zero != 0 || zero_too != 0 {
+        let version = Version::from_number(version.into())?;
+        if instructions > MAX_INSTRUCTIONS || zero != 0 {
             return None;
         }
         entries.push(match kind {
             0 => {
                 let (body, after) = bodies.split_at_checked(INSTRUCTION_BYTES * instructions)?;
                 bodies = after;
-                let program = body.to_vec();
-                Entry::Change { timestamp, program }
+                Entry::Change {
+                    timestamp,
+                    version,
+                    program: body.to_vec(),
+                }
             }
-            1 if instructions == 0 => Entry::Withdrawal { timestamp },
+            1 if instructions == 0 && version == Version::Zero => Entry::Withdrawal { timestamp },
             _ => return None,
         });
     }
@@ -74,12 +88,17 @@ pub fn entries(package: &[u8]) -> Option<Vec<Entry>> {
 pub fn lay_out(entries: &[Entry]) -> Vec<u8> {
     let mut package = (entries.len() as u16).to_le_bytes().to_vec();
     for entry in entries {
-        let (timestamp, kind, bytes) = match entry {
-            Entry::Change { timestamp, program } => (timestamp, 0, program.len()),
-            Entry::Withdrawal { timestamp } => (timestamp, 1, 0),
+        let (timestamp, kind, bytes, version) = match entry {
+            Entry::Change {
+                timestamp,
+                version,
+                program,
+            } => (timestamp, 0, program.len(), *version),
+            Entry::Withdrawal { timestamp } => (timestamp, 1, 0, Version::Zero),
         };
+        let instructions = (bytes / INSTRUCTION_BYTES) as u8;
         package.extend(timestamp.to_le_bytes());
-        package.extend([kind, (bytes / INSTRUCTION_BYTES) as u8, 0, 0]);
+        package.extend([kind, instructions, version.number() as u8, 0]);
     }
     for entry in entries {
         if let Entry::Change { program, .. } = entry {
@@ -102,7 +121,11 @@ pub fn take_in_package(
     let entries = entries(package).ok_or(Refusal::Package)?;
     for (answer, entry) in answers.iter_mut().zip(entries) {
         let taken = match entry {
-            Entry::Change { timestamp, program } => take_in_checked(tables, timestamp, &program),
+            Entry::Change {
+                timestamp,
+                version,
+                program,
+            } => take_in_checked(tables, timestamp, version.number(), &program),
             Entry::Withdrawal { timestamp } => {
                 withdraw_checked(tables, timestamp).map(|()| Taken::Done)
             }
@@ -128,6 +151,7 @@ pub fn package_out(n: usize, tables: &Tables, lent: &mut [u8]) -> Result<usize, 
         .collect();
     let changes = places.iter().map(|(&timestamp, &place)| Entry::Change {
         timestamp,
+        version: tables.version(place),
         program: tables.program(place).to_vec(),
     });
     let withdrawn = places

@@ -1,7 +1,7 @@
 //! Programs of a change: the test of their form, and their runs.
 //!
 //! Document 01, "Instructions of a change", and refusals 6 and 7 of "Turned down, in checking
-//! order".
+//! order"; document 02, R-6.
 
 use std::fmt;
 
@@ -16,6 +16,39 @@ pub const INSTRUCTION_BYTES: usize = 8;
 
 /// "Registers 0 to 7 start at 0."
 pub const REGISTERS: usize = 8;
+
+/// The rules that a program runs by: "the version, 0 or 1, kept with the change" (document 02, R-6).
+#[derive(Clone, Copy, Debug, Default, PartialEq, Eq, PartialOrd, Ord)]
+pub enum Version {
+    /// "Version 0 runs as before."
+    #[default]
+    Zero,
+    /// "Version 1 reads its own written value, which enters no read list, and a second write
+    /// replaces the value in its first place in the list."
+    One,
+}
+
+impl Version {
+    /// Both versions.
+    pub const ALL: [Self; 2] = [Self::Zero, Self::One];
+
+    /// The version with this number, if there is one.
+    pub fn from_number(number: u16) -> Option<Self> {
+        match number {
+            0 => Some(Self::Zero),
+            1 => Some(Self::One),
+            _ => None,
+        }
+    }
+
+    /// The number of this version.
+    pub fn number(self) -> u16 {
+        match self {
+            Self::Zero => 0,
+            Self::One => 1,
+        }
+    }
+}
 
 /// The operations, by the number in an instruction's first byte, each with its effect by document
 /// 01's table.
@@ -122,6 +155,8 @@ impl Instruction {
 pub enum Malformed {
     /// "6. The program is over 256 bytes or no multiple of 8."
     Length,
+    /// "A direct call with a version above 1 gets refusal 13, just after 6" (document 02, R-6).
+    Version,
     /// "7. An instruction is not in the table, or a register, n or unused part is wrong."
     Instruction,
 }
@@ -131,24 +166,27 @@ impl Malformed {
     pub fn refusal(self) -> u8 {
         match self {
             Self::Length => 6,
+            Self::Version => 13,
             Self::Instruction => 7,
         }
     }
 }
 
-/// Tests the form of a program: refusal 6, then refusal 7 over every instruction, reachable or not.
-pub fn check(program: &[u8]) -> Result<(), Malformed> {
+/// Tests the form of a program, whose version may be any number: refusal 6, then 13, then refusal 7
+/// over every instruction, reachable or not. Returns the version.
+pub fn check(version: u16, program: &[u8]) -> Result<Version, Malformed> {
     let (instructions, rest) = program.as_chunks();
     if instructions.len() > MAX_INSTRUCTIONS || !rest.is_empty() {
         return Err(Malformed::Length);
     }
+    let version = Version::from_number(version).ok_or(Malformed::Version)?;
     for (place, &bytes) in instructions.iter().enumerate() {
         let following = instructions.len() - place - 1;
         if !Instruction::from_bytes(bytes).is_well_formed(following) {
             return Err(Malformed::Instruction);
         }
     }
-    Ok(())
+    Ok(version)
 }
 
 /// Why a run breaks off.
@@ -156,10 +194,10 @@ pub fn check(program: &[u8]) -> Result<(), Malformed> {
 pub enum Fault {
     /// "A run faults when a register names a setting outside 0 to 1,023".
     NoSuchSetting,
-    /// "when it reads a setting that it has written". Also where it read the setting before it
-    /// wrote it.
+    /// "when it reads a setting that it has written", by version 0. Also where it read the setting
+    /// before it wrote it.
     ReadOfWritten,
-    /// "when it writes one twice". Also where both values are equal.
+    /// "when it writes one twice", by version 0. Also where both values are equal.
     WrittenTwice,
 }
 
@@ -198,6 +236,13 @@ impl AccessList {
         self.len += 1;
     }
 
+    /// The value of a setting that the list names.
+    fn value_of(&mut self, setting: u16) -> &mut i32 {
+        let mut entries = self.entries[..self.len].iter_mut();
+        let entry = entries.find(|entry| entry.setting == setting);
+        &mut entry.expect("the list names the setting").value
+    }
+
     fn clear(&mut self) {
         self.len = 0;
     }
@@ -224,7 +269,8 @@ impl Outcome {
         self.reads.as_slice()
     }
 
-    /// "the write list is in order of writing." It is empty after a fault.
+    /// "the write list is in order of writing." It is empty after a fault. By version 1 "a second
+    /// write replaces the value in its first place in the list" (document 02, R-6).
     pub fn writes(&self) -> &[Access] {
         self.writes.as_slice()
     }
@@ -280,6 +326,7 @@ impl SettingSet {
 
 /// The settings as a run meets them, and the record of what it reads and writes.
 struct Accesses<'a> {
+    version: Version,
     settings: &'a [i32; SETTINGS],
     read: SettingSet,
     written: SettingSet,
@@ -292,7 +339,12 @@ impl Accesses<'_> {
     fn read(&mut self, number: i32) -> Result<i32, Fault> {
         let setting = setting_named(number)?;
         if self.written.contains(setting) {
-            return Err(Fault::ReadOfWritten);
+            return match self.version {
+                Version::Zero => Err(Fault::ReadOfWritten),
+                // It "enters no read list" (document 02, R-6), also where the setting was read before
+                // it was written: the list then keeps the value seen before.
+                Version::One => Ok(*self.writes.value_of(setting)),
+            };
         }
         let value = self.settings[usize::from(setting)];
         if self.read.insert(setting) {
@@ -304,11 +356,17 @@ impl Accesses<'_> {
     #[inline]
     fn write(&mut self, number: i32, value: i32) -> Result<(), Fault> {
         let setting = setting_named(number)?;
-        if !self.written.insert(setting) {
-            return Err(Fault::WrittenTwice);
+        if self.written.insert(setting) {
+            self.writes.push(setting, value);
+            return Ok(());
         }
-        self.writes.push(setting, value);
-        Ok(())
+        match self.version {
+            Version::Zero => Err(Fault::WrittenTwice),
+            Version::One => {
+                *self.writes.value_of(setting) = value;
+                Ok(())
+            }
+        }
     }
 }
 
@@ -320,33 +378,41 @@ fn setting_named(number: i32) -> Result<u16, Fault> {
     }
 }
 
-/// Runs a well formed program on the given values of the settings. It does not change them: the
-/// writes are in the outcome.
+/// Runs a well formed program by the rules of its version on the given values of the settings. It
+/// does not change them: the writes are in the outcome.
 ///
 /// # Panics
 ///
 /// May panic on a program that [`check`] turns down, or give an outcome without meaning.
-pub fn run(program: &[u8], settings: &[i32; SETTINGS]) -> Outcome {
+pub fn run(version: Version, program: &[u8], settings: &[i32; SETTINGS]) -> Outcome {
     let mut outcome = Outcome::EMPTY;
-    run_into(program, settings, &mut outcome);
+    run_into(version, program, settings, &mut outcome);
     outcome
 }
 
 /// As [`run`], into a given outcome. What it held is overwritten.
-pub fn run_into(program: &[u8], settings: &[i32; SETTINGS], outcome: &mut Outcome) {
-    run_visiting(program, settings, outcome, |_| ());
-}
-
-/// As [`run_into`], calling `visit` with the place of each instruction before it is carried out.
-pub fn run_visiting(
+pub fn run_into(
+    version: Version,
     program: &[u8],
     settings: &[i32; SETTINGS],
     outcome: &mut Outcome,
-    mut visit: impl FnMut(usize),
+) {
+    run_visiting(version, program, settings, outcome, |_, _| ());
+}
+
+/// As [`run_into`], calling `visit` before each instruction is carried out, with its place and what
+/// the registers hold.
+pub fn run_visiting(
+    version: Version,
+    program: &[u8],
+    settings: &[i32; SETTINGS],
+    outcome: &mut Outcome,
+    mut visit: impl FnMut(usize, &[i32; REGISTERS]),
 ) {
     outcome.reads.clear();
     outcome.writes.clear();
     let mut accesses = Accesses {
+        version,
         settings,
         read: SettingSet::EMPTY,
         written: SettingSet::EMPTY,
@@ -361,7 +427,7 @@ pub fn run_visiting(
         let Some(&bytes) = instructions.get(place) else {
             break None;
         };
-        visit(place);
+        visit(place, &r);
         let Instruction { op, a, b, c, n } = Instruction::from_bytes(bytes);
         let [a, b, c] = [a, b, c].map(usize::from);
         let mut next = place + 1;

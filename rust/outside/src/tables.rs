@@ -1,8 +1,10 @@
 //! The tables: their lengths and their form.
 //!
-//! Document 01, "Tables", and refusals 1 and 2 of "Turned down, in checking order".
+//! Document 01, "Tables", and refusals 1 and 2 of "Turned down, in checking order"; document 02, R-6.
 
-use crate::program::{self, Access, SettingSet, INSTRUCTION_BYTES, MAX_INSTRUCTIONS, SETTINGS};
+use crate::program::{
+    self, Access, SettingSet, Version, INSTRUCTION_BYTES, MAX_INSTRUCTIONS, SETTINGS,
+};
 use crate::start::settings_at_start;
 use std::collections::HashSet;
 
@@ -48,7 +50,7 @@ impl Status {
     }
 }
 
-/// The fourteen tables, of any lengths and with any contents. "by place, in order of arrival" are
+/// The fifteen tables, of any lengths and with any contents. "by place, in order of arrival" are
 /// all but the held count, the order and the view.
 #[derive(Clone, Debug, PartialEq, Eq)]
 pub struct Tables {
@@ -81,6 +83,9 @@ pub struct Tables {
     pub written: Vec<i32>,
     /// "and the view (1,024)."
     pub view: Vec<i32>,
+    /// The version of each change (N), which "gets a lent table of its own, in document 01's widths
+    /// unless another is told and in form only with the values named", 0 and 1 (document 02, R-6).
+    pub versions: Vec<u16>,
 }
 
 impl Tables {
@@ -102,6 +107,7 @@ impl Tables {
             targets: vec![0; LIST_ENTRIES * n],
             written: vec![0; LIST_ENTRIES * n],
             view: settings_at_start().to_vec(),
+            versions: vec![0; n],
         }
     }
 
@@ -120,7 +126,12 @@ impl Tables {
         Status::from_number(self.status[place]).expect("the tables are in form")
     }
 
-    /// The program at a held place of tables in form.
+    /// The version at a held place of tables in form.
+    pub fn version(&self, place: usize) -> Version {
+        Version::from_number(self.versions[place]).expect("the tables are in form")
+    }
+
+    /// The bytes of the program at a held place of tables in form.
     pub fn program(&self, place: usize) -> &[u8] {
         let length = usize::from(self.lengths[place]);
         &self.program_bytes(place)[..INSTRUCTION_BYTES * length]
@@ -205,6 +216,7 @@ pub fn check_lengths(n: usize, tables: &Tables) -> bool {
         (tables.targets.len(), LIST_ENTRIES * n),
         (tables.written.len(), LIST_ENTRIES * n),
         (tables.view.len(), SETTINGS),
+        (tables.versions.len(), n),
     ];
     lengths.iter().all(|(length, given)| length == given)
 }
@@ -213,7 +225,7 @@ pub fn check_lengths(n: usize, tables: &Tables) -> bool {
 ///
 /// "Tables are in form when counts, order, status, flags, settings, programs and unused slots obey
 /// this section, timestamps are valid and distinct, no list names a setting twice, and a New
-/// change's lists are empty. The view is not tested."
+/// change's lists are empty. The view is not tested." The version is "0 or 1" (document 02, R-6).
 ///
 /// # Panics
 ///
@@ -242,14 +254,18 @@ fn order_in_form(order: &[u16], timestamps: &[u64]) -> bool {
     used.iter().map(|&place| usize::from(place)).eq(places) && all_zero(unused)
 }
 
-/// Whether status, flag, program and lists at a held place are in form.
+/// Whether status, flag, version, program and lists at a held place are in form.
 fn change_in_form(tables: &Tables, place: usize) -> bool {
     let Some(status) = Status::from_number(tables.status[place]) else {
         return false;
     };
     let (reads, writes) = (tables.reads[place], tables.writes[place]);
     tables.withdrawn[place] <= 1
-        && program_in_form(tables.lengths[place], tables.program_bytes(place))
+        && program_in_form(
+            tables.versions[place],
+            tables.lengths[place],
+            tables.program_bytes(place),
+        )
         && list_in_form(
             reads,
             entries(&tables.sources, place),
@@ -263,15 +279,15 @@ fn change_in_form(tables: &Tables, place: usize) -> bool {
         && (status != Status::New || (reads == 0 && writes == 0))
 }
 
-/// Whether the first `length` instructions of these bytes are a program that neither refusal 6 nor
-/// 7 turns down, and the bytes behind it are 0.
-fn program_in_form(length: u16, bytes: &[u8]) -> bool {
+/// Whether the version and the first `length` instructions of these bytes are a program that none of
+/// refusals 6, 13 and 7 turns down, and the bytes behind it are 0.
+fn program_in_form(version: u16, length: u16, bytes: &[u8]) -> bool {
     let length = usize::from(length);
     if length > MAX_INSTRUCTIONS {
         return false;
     }
     let (program, unused) = bytes.split_at(INSTRUCTION_BYTES * length);
-    program::check(program).is_ok() && all_zero(unused)
+    program::check(version, program).is_ok() && all_zero(unused)
 }
 
 /// Whether a list of `count` entries fits, names settings that there are, none of them twice, and
@@ -304,6 +320,7 @@ fn is_unused(tables: &Tables, place: usize) -> bool {
         && all_zero(entries(&tables.seen, place))
         && all_zero(entries(&tables.targets, place))
         && all_zero(entries(&tables.written, place))
+        && tables.versions[place] == 0
 }
 
 fn all_zero<T: Copy + Default + PartialEq>(slots: &[T]) -> bool {

@@ -1,6 +1,6 @@
 // Which console's changes keep rerunning: those of one that reads what another sets.
 
-use tolbezun::{program, setting, Cabinet, Instruction, Refusal, TotalsByConsole};
+use tolbezun::{program, setting, Cabinet, Instruction, Refusal, TotalsByConsole, Version};
 
 /// The power left of a port.
 const fn power(port: usize) -> usize {
@@ -44,15 +44,15 @@ fn main() -> Result<(), Refusal> {
     let mut cabinet = Cabinet::new(128)?;
 
     // Console 1 gives port 2 power, console 2 gives ports 3 and 4 as much, console 3 sets a VLAN.
-    cabinet.take_in(stamp(1, 1), &set(power(2), 400))?;
-    cabinet.take_in(stamp(3, 2), &copy(power(2), power(3)))?;
-    cabinet.take_in(stamp(4, 2), &copy(power(2), power(4)))?;
-    cabinet.take_in(stamp(5, 3), &set(setting(5, 2), 30))?;
+    cabinet.take_in(stamp(1, 1), Version::Zero, &set(power(2), 400))?;
+    cabinet.take_in(stamp(3, 2), Version::Zero, &copy(power(2), power(3)))?;
+    cabinet.take_in(stamp(4, 2), Version::Zero, &copy(power(2), power(4)))?;
+    cabinet.take_in(stamp(5, 3), Version::Zero, &set(setting(5, 2), 30))?;
     let totals = show(&mut cabinet, "four changes")?;
     assert_eq!(totals.sum().ran, 4);
 
     // A change of console 1 arrives late, and both of console 2 are run again.
-    cabinet.take_in(stamp(2, 1), &set(power(2), 250))?;
+    cabinet.take_in(stamp(2, 1), Version::Zero, &set(power(2), 250))?;
     let totals = show(&mut cabinet, "another power for port 2, late")?;
     assert_eq!(totals.of(2).ran, 2);
 

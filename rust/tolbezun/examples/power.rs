@@ -1,6 +1,6 @@
 // The power budget of a port, kept by three changes, one of which arrives late.
 
-use tolbezun::{program, setting, Cabinet, Instruction, Refusal};
+use tolbezun::{program, setting, Cabinet, Instruction, Refusal, Version};
 
 const POWER_LEFT: usize = setting(2, 4);
 const POWER_ALARM: usize = setting(2, 5);
@@ -49,12 +49,12 @@ fn show(cabinet: &mut Cabinet, story: &str) -> Result<(i32, i32), Refusal> {
 
 fn main() -> Result<(), Refusal> {
     let mut cabinet = Cabinet::new(128)?;
-    cabinet.take_in(10, &give(400))?;
-    cabinet.take_in(30, &take(300))?;
+    cabinet.take_in(10, Version::Zero, &give(400))?;
+    cabinet.take_in(30, Version::Zero, &take(300))?;
     assert_eq!(show(&mut cabinet, "10 gives 400, 30 takes 300")?, (100, 0));
 
     // A change that was made between the two arrives late. The one after it is run again.
-    cabinet.take_in(20, &take(200))?;
+    cabinet.take_in(20, Version::Zero, &take(200))?;
     assert_eq!(show(&mut cabinet, "20 takes 200, late")?, (-100, 1));
 
     // It is withdrawn: all is as if it had never been made.
@@ -62,7 +62,7 @@ fn main() -> Result<(), Refusal> {
     assert_eq!(show(&mut cabinet, "20 is withdrawn")?, (100, 0));
 
     // A refusal says why, and alters nothing.
-    if let Err(refusal) = cabinet.take_in(30, &take(200)) {
+    if let Err(refusal) = cabinet.take_in(30, Version::Zero, &take(200)) {
         println!("{refusal}");
     }
     Ok(())

@@ -22,9 +22,11 @@ pub enum Refusal {
     Setting = 5,
     /// The program is over 256 bytes or no multiple of 8.
     ProgramLength = 6,
+    /// The version is above 1. [`Version`](crate::Version) names no such one.
+    Version = 13,
     /// An instruction is not in the table, or a register, n or unused part is wrong.
     Instruction = 7,
-    /// The timestamp is held with another program.
+    /// The timestamp is held with another program, of which the version is part.
     OtherProgram = 8,
     /// The held count equals the capacity and the timestamp is not held.
     Full = 9,
@@ -39,13 +41,14 @@ pub enum Refusal {
 
 impl Refusal {
     /// All refusals, in checking order.
-    pub const ALL: [Self; 12] = [
+    pub const ALL: [Self; 13] = [
         Self::Length,
         Self::Form,
         Self::Package,
         Self::Timestamp,
         Self::Setting,
         Self::ProgramLength,
+        Self::Version,
         Self::Instruction,
         Self::OtherProgram,
         Self::Full,
@@ -54,7 +57,7 @@ impl Refusal {
         Self::Room,
     ];
 
-    /// The number of the refusal, 1 to 12.
+    /// The number of the refusal, 1 to 13.
     pub fn number(self) -> u8 {
         self as u8
     }
@@ -76,6 +79,7 @@ impl fmt::Display for Refusal {
             Self::Timestamp => "the timestamp is out of range",
             Self::Setting => "there is no such setting",
             Self::ProgramLength => "the program is over 256 bytes or no multiple of 8",
+            Self::Version => "the version is above 1",
             Self::Instruction => "an instruction of the program is wrong",
             Self::OtherProgram => "the timestamp is held with another program",
             Self::Full => "the tables are full",

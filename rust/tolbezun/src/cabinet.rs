@@ -2,6 +2,7 @@
 
 use crate::answers::{Refusal, Standing, Taken, TotalsByConsole, Turned};
 use crate::calls::{self, ANSWERS, PACKAGE_BYTES, TOTALS};
+use crate::instruction::Version;
 use crate::tables::{Tables, MAX_CAPACITY, SETTINGS};
 
 /// The value that each setting starts at, as a new switch comes up: 1 for the untagged VLAN of each
@@ -16,8 +17,8 @@ pub fn start_values() -> [i32; SETTINGS] {
 /// The change history of one cabinet.
 ///
 /// Changes are taken in and withdrawn in any order; after a [`drain`](Self::drain) the settings are
-/// those that all held changes give, run in the order of their timestamps, withdrawn ones passed
-/// over.
+/// those that all held changes give, run in the order of their timestamps, each by its own version,
+/// withdrawn ones passed over.
 ///
 /// The error of a method is the refusal, and a refused call alters nothing. The tables of a cabinet
 /// made by [`new`](Self::new) are in form at all times, so that its calls are never refused for
@@ -65,9 +66,15 @@ impl Cabinet {
         calls::set_up(self.capacity, &mut self.tables)
     }
 
-    /// Takes in the change with this timestamp and program.
-    pub fn take_in(&mut self, timestamp: u64, program: &[u8]) -> Result<Taken, Refusal> {
-        calls::take_in(self.capacity, &mut self.tables, timestamp, program)
+    /// Takes in the change with this timestamp and program, which runs by the rules of this version.
+    pub fn take_in(
+        &mut self,
+        timestamp: u64,
+        version: Version,
+        program: &[u8],
+    ) -> Result<Taken, Refusal> {
+        let (n, tables) = (self.capacity, &mut self.tables);
+        calls::take_in(n, tables, timestamp, version.number(), program)
     }
 
     /// Withdraws a change: after a drain it is as if it had never been made.
@@ -131,7 +138,7 @@ impl Cabinet {
     /// ([`Refusal::Room`]). A withdrawn change is two entries.
     ///
     /// ```
-    /// use tolbezun::{program, setting, Cabinet, Instruction, Refusal, Taken};
+    /// use tolbezun::{program, setting, Cabinet, Instruction, Refusal, Taken, Version};
     ///
     /// /// A change that sets the untagged VLAN of port 2.
     /// fn set(vlan: i32) -> Vec<u8> {
@@ -144,8 +151,8 @@ impl Cabinet {
     ///
     /// fn main() -> Result<(), Refusal> {
     ///     let mut neighbour = Cabinet::new(128)?;
-    ///     neighbour.take_in(20, &set(30))?;
-    ///     neighbour.take_in(10, &set(7))?;
+    ///     neighbour.take_in(20, Version::Zero, &set(30))?;
+    ///     neighbour.take_in(10, Version::One, &set(7))?;
     ///     neighbour.withdraw(20)?;
     ///     neighbour.drain()?;
     ///

@@ -41,6 +41,8 @@ macro_rules! call {
             $tables.written_values.len(),
             $tables.view.$pointer(),
             $tables.view.len(),
+            $tables.version.$pointer(),
+            $tables.version.len(),
             $($argument),*
         )
     };
@@ -62,11 +64,13 @@ pub fn set_up(n: usize, tables: &mut Tables) -> Result<(), Refusal> {
     done(unsafe { call!(tolbezun_set_up(n, tables.as_mut_ptr())) })
 }
 
-/// Takes in a change: held count, timestamps, order, length and programs.
+/// Takes in a change: held count, timestamps, order, length, programs and version. A version above 1
+/// is refused; [`Version`](crate::Version) says what the others mean.
 pub fn take_in(
     n: usize,
     tables: &mut Tables,
     timestamp: u64,
+    version: u16,
     program: &[u8],
 ) -> Result<Taken, Refusal> {
     let (bytes, length) = (program.as_ptr(), program.len());
@@ -77,6 +81,7 @@ pub fn take_in(
             n,
             tables.as_mut_ptr(),
             timestamp,
+            version,
             bytes,
             length
         ))

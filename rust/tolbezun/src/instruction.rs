@@ -1,4 +1,7 @@
-//! The instructions of a change: document 01, "Instructions of a change".
+//! The instructions of a change: document 01, "Instructions of a change"; and the version by which
+//! they run: document 02, R-6.
+
+use crate::answers::Refusal;
 
 /// An instruction. `a`, `b` and `c` are registers, 0 to 7.
 ///
@@ -73,6 +76,64 @@ impl Instruction {
         };
         let [n0, n1, n2, n3] = n.to_le_bytes();
         [operation, a, b, c, n0, n1, n2, n3]
+    }
+}
+
+/// The rules that a program runs by.
+///
+/// ```
+/// use tolbezun::{program, Cabinet, Instruction, Refusal, Turned, Version};
+///
+/// fn main() -> Result<(), Refusal> {
+///     let program = program(&[
+///         Instruction::Constant { a: 0, n: 400 },
+///         Instruction::Write { a: 0, setting: 36 },
+///         Instruction::Read { a: 1, setting: 36 },
+///         Instruction::Write { a: 1, setting: 52 },
+///     ]);
+///     let mut cabinet = Cabinet::new(128)?;
+///     cabinet.take_in(10, Version::Zero, &program)?;
+///     cabinet.take_in(20, Version::One, &program)?;
+///     assert_eq!(cabinet.turn(), Ok(Turned::Faulted(10, 2)));
+///     assert_eq!(cabinet.turn(), Ok(Turned::Ran(20)));
+///     assert_eq!(cabinet.current_value(52), Ok(400));
+///     Ok(())
+/// }
+/// ```
+#[derive(Clone, Copy, Debug, Default, PartialEq, Eq, PartialOrd, Ord, Hash)]
+#[repr(u16)]
+pub enum Version {
+    /// A run faults where it reads a setting that it has written, and where it writes one twice.
+    #[default]
+    Zero = 0,
+    /// A run reads the value that it has written, which enters no read list, and a second write
+    /// replaces the value of the first, in its place in the write list.
+    One = 1,
+}
+
+impl Version {
+    /// The number of the version, as the tables hold it.
+    pub const fn number(self) -> u16 {
+        self as u16
+    }
+}
+
+impl From<Version> for u16 {
+    fn from(version: Version) -> Self {
+        version.number()
+    }
+}
+
+impl TryFrom<u16> for Version {
+    type Error = Refusal;
+
+    /// The version with this number, 0 or 1.
+    fn try_from(number: u16) -> Result<Self, Refusal> {
+        match number {
+            0 => Ok(Self::Zero),
+            1 => Ok(Self::One),
+            _ => Err(Refusal::Version),
+        }
     }
 }
 

@@ -70,5 +70,5 @@ mod tables;
 
 pub use answers::{console, Refusal, Standing, Status, Taken, Totals, TotalsByConsole, Turned};
 pub use cabinet::{start_values, Cabinet};
-pub use instruction::{program, Instruction};
+pub use instruction::{program, Instruction, Version};
 pub use tables::{setting, Tables, MAX_CAPACITY, SETTINGS};

@@ -39,7 +39,9 @@ macro_rules! declare {
                 written_values: *$kind i32,
                 written_values_len: usize,
                 view: *$kind i32,
-                view_len: usize
+                view_len: usize,
+                versions: *$kind u16,
+                versions_len: usize
                 $(, $argument: $type)*
             ) -> $answer;)*
             $(fn $other($($parameter: $kind_of),*) -> $other_answer;)*
@@ -69,6 +71,7 @@ declare! {
     fn tolbezun_take_in(
         tables: *mut,
         timestamp: u64,
+        version: u16,
         program: *const u8,
         program_len: usize
     ) -> u8;

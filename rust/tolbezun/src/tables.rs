@@ -20,7 +20,8 @@ pub const fn setting(port: usize, field: usize) -> usize {
     port * FIELDS + field
 }
 
-/// The fourteen tables of document 01, "Tables". A place is a change, in order of arrival.
+/// The fourteen tables of document 01, "Tables", and that of the versions (document 02, R-6). A place
+/// is a change, in order of arrival.
 ///
 /// They may have any lengths and contents: a call refuses those that it cannot use.
 #[derive(Clone, Debug, PartialEq, Eq)]
@@ -53,6 +54,8 @@ pub struct Tables {
     pub written_values: Vec<i32>,
     /// The current value of each setting (1,024).
     pub view: Vec<i32>,
+    /// The version of each place (N): 0 or 1.
+    pub version: Vec<u16>,
 }
 
 impl Tables {
@@ -74,6 +77,7 @@ impl Tables {
             write_settings: vec![0; LIST_ENTRIES * capacity],
             written_values: vec![0; LIST_ENTRIES * capacity],
             view: vec![0; SETTINGS],
+            version: vec![0; capacity],
         }
     }
 }

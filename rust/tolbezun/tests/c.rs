@@ -65,11 +65,11 @@ fn the_example_shows_the_power_left() {
 /// Answers as the header says, slices that keep their contents, and nothing lent.
 #[test]
 fn edges_are_as_the_header_says() {
-    // 1, which is withdrawn, has no instructions, 2^64 - 2 has two.
+    // 1, which is withdrawn, has no instructions, 2^64 - 2 has two and version 1.
     let package = [
         "0300",
         "010000000000000000000000",
-        "feffffffffffffff00020000",
+        "feffffffffffffff00020100",
         "010000000000000001000000",
         "01000000fbffffff0d000000ff030000",
     ];
@@ -110,6 +110,11 @@ turn 1 256 3 77
 turn 0 256 3 77
 withdraw 0
 turn 3 255 3 77
+versions 0 13 13 6 13 0 8 255 0: 1 0
+turn 4 2 2 77
+turn 1 3 2 77
+current_value -10
+turn 18 3 2 77
 not in form 2 18 65538 65538
 drain 1 1024 77
 drain 2 1024 77

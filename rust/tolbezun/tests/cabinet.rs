@@ -4,6 +4,7 @@ mod programs;
 
 use programs::{copy, set};
 use tolbezun::calls::{self, PACKAGE_BYTES};
+use tolbezun::Version::{One, Zero};
 use tolbezun::{
     program, setting, start_values, Cabinet, Instruction, Refusal, Standing, Status, Tables, Taken,
     Totals, Turned, MAX_CAPACITY, SETTINGS,
@@ -84,8 +85,11 @@ fn every_instruction_has_the_bytes_of_the_table() {
     }
     // The library accepts them all.
     let all = table.map(|(instruction, _)| instruction);
-    let mut cabinet = Cabinet::new(1).unwrap();
-    assert_eq!(cabinet.take_in(1, &program(&all)), Ok(Taken::Done));
+    let mut cabinet = Cabinet::new(2).unwrap();
+    for (timestamp, version) in [(1, Zero), (2, One)] {
+        let taken = cabinet.take_in(timestamp, version, &program(&all));
+        assert_eq!(taken, Ok(Taken::Done));
+    }
 }
 
 #[test]
@@ -125,14 +129,17 @@ fn a_new_switch_has_untagged_vlan_1_and_all_else_at_0() {
 fn calls_answer_by_name() {
     let mut cabinet = Cabinet::new(3).unwrap();
     assert_eq!(cabinet.turn(), Ok(Turned::Idle));
-    assert_eq!(cabinet.take_in(30, &copy(34, 50)), Ok(Taken::Done));
-    assert_eq!(cabinet.take_in(30, &copy(34, 50)), Ok(Taken::AlreadyHeld));
+    assert_eq!(cabinet.take_in(30, One, &copy(34, 50)), Ok(Taken::Done));
+    assert_eq!(
+        cabinet.take_in(30, One, &copy(34, 50)),
+        Ok(Taken::AlreadyHeld)
+    );
     assert_eq!(cabinet.turn(), Ok(Turned::Ran(30)));
-    assert_eq!(cabinet.take_in(10, &set(34, 7)), Ok(Taken::Done));
+    assert_eq!(cabinet.take_in(10, Zero, &set(34, 7)), Ok(Taken::Done));
     assert_eq!(cabinet.turn(), Ok(Turned::Ran(10)));
     let standing = |status, withdrawn| Ok(Standing { status, withdrawn });
     assert_eq!(cabinet.standing(30), standing(Status::Invalid, false));
-    assert_eq!(cabinet.take_in(20, &set(34, 1)), Ok(Taken::Done));
+    assert_eq!(cabinet.take_in(20, Zero, &set(34, 1)), Ok(Taken::Done));
     assert_eq!(cabinet.standing(20), standing(Status::New, false));
     assert_eq!(cabinet.turn(), Ok(Turned::Ran(20)));
     assert_eq!(cabinet.turn(), Ok(Turned::Stood(30)));
@@ -160,7 +167,7 @@ fn a_change_that_breaks_off_answers_with_the_place() {
     let twice = [set(34, 7), set(34, 8)].concat();
     let mut cabinet = Cabinet::new(3).unwrap();
     for (timestamp, program) in [(5, set(34, 6)), (10, twice), (15, copy(34, 51))] {
-        assert_eq!(cabinet.take_in(timestamp, &program), Ok(Taken::Done));
+        assert_eq!(cabinet.take_in(timestamp, Zero, &program), Ok(Taken::Done));
     }
     let mut single = cabinet.clone();
     assert_eq!(single.turn(), Ok(Turned::Ran(5)));
@@ -207,19 +214,22 @@ fn a_package_has_an_answer_for_each_entry() {
     assert_eq!(cabinet, before);
 }
 
-/// The later change arrives first and is Valid, the other is withdrawn and New.
+/// The later change arrives first, has version 1 and is Valid, the other is withdrawn and New.
 #[test]
 fn a_package_out_has_the_changes_and_then_the_withdrawals() {
     let mut cabinet = Cabinet::new(4).unwrap();
     assert_eq!(cabinet.package_out(), Ok(vec![0, 0]));
-    assert_eq!(cabinet.take_in(0x0102_0304, &copy(34, 50)), Ok(Taken::Done));
+    assert_eq!(
+        cabinet.take_in(0x0102_0304, One, &copy(34, 50)),
+        Ok(Taken::Done)
+    );
     assert_eq!(cabinet.drain().map(|totals| totals.sum().ran), Ok(1));
-    assert_eq!(cabinet.take_in(10, &set(34, 7)), Ok(Taken::Done));
+    assert_eq!(cabinet.take_in(10, Zero, &set(34, 7)), Ok(Taken::Done));
     assert_eq!(cabinet.withdraw(10), Ok(()));
     let contents = [
         &[3, 0][..],
         &[10, 0, 0, 0, 0, 0, 0, 0, 0, 2, 0, 0],
-        &[4, 3, 2, 1, 0, 0, 0, 0, 0, 2, 0, 0],
+        &[4, 3, 2, 1, 0, 0, 0, 0, 0, 2, 1, 0],
         &[10, 0, 0, 0, 0, 0, 0, 0, 1, 0, 0, 0],
     ];
     let bodies = [set(34, 7), copy(34, 50)];
@@ -243,7 +253,7 @@ fn a_package_out_has_the_changes_and_then_the_withdrawals() {
 #[test]
 fn a_lent_slice_gets_the_package_and_else_keeps_its_contents() {
     let mut cabinet = Cabinet::new(2).unwrap();
-    assert_eq!(cabinet.take_in(10, &set(34, 7)), Ok(Taken::Done));
+    assert_eq!(cabinet.take_in(10, Zero, &set(34, 7)), Ok(Taken::Done));
     let package = cabinet.package_out().unwrap();
     assert_eq!(package.len(), 30);
     for length in 0..40 {
@@ -278,7 +288,7 @@ fn assert_no_room(cabinet: &Cabinet) {
 fn a_package_has_its_limits_whatever_is_lent() {
     let mut cabinet = Cabinet::new(MAX_CAPACITY).unwrap();
     for timestamp in 1..=511 {
-        assert_eq!(cabinet.take_in(timestamp, &[]), Ok(Taken::Done));
+        assert_eq!(cabinet.take_in(timestamp, Zero, &[]), Ok(Taken::Done));
     }
     assert_eq!(
         cabinet.package_out().map(|package| package.len()),
@@ -296,16 +306,16 @@ fn a_package_has_its_limits_whatever_is_lent() {
     // 2 + 12 × 245 + 8 × (32 × 244 + 16) = 65,534.
     let mut cabinet = Cabinet::new(MAX_CAPACITY).unwrap();
     for timestamp in 1..=244 {
-        assert_eq!(cabinet.take_in(timestamp, &[0; 256]), Ok(Taken::Done));
+        assert_eq!(cabinet.take_in(timestamp, Zero, &[0; 256]), Ok(Taken::Done));
     }
     let mut longer = cabinet.clone();
-    assert_eq!(cabinet.take_in(245, &[0; 8 * 16]), Ok(Taken::Done));
+    assert_eq!(cabinet.take_in(245, Zero, &[0; 8 * 16]), Ok(Taken::Done));
     assert_eq!(
         cabinet.package_out().map(|package| package.len()),
         Ok(65_534)
     );
     // 2 + 12 × 246 + 8 × (32 × 244 + 15) = 65,538.
-    assert_eq!(longer.take_in(245, &[0; 8 * 15]), Ok(Taken::Done));
+    assert_eq!(longer.take_in(245, Zero, &[0; 8 * 15]), Ok(Taken::Done));
     assert_eq!(longer.withdraw(1), Ok(()));
     assert_no_room(&longer);
 }
@@ -313,7 +323,7 @@ fn a_package_has_its_limits_whatever_is_lent() {
 #[test]
 fn every_refusal_has_its_number_and_its_call() {
     let mut cabinet = Cabinet::new(1).unwrap();
-    assert_eq!(cabinet.take_in(5, &set(1, 1)), Ok(Taken::Done));
+    assert_eq!(cabinet.take_in(5, Zero, &set(1, 1)), Ok(Taken::Done));
     let mut short = Tables::new(1);
     short.view.pop();
     let mut broken = Tables::new(1);
@@ -326,23 +336,25 @@ fn every_refusal_has_its_number_and_its_call() {
         cabinet.take_in_package(&[1, 0]).err(),
         cabinet.withdraw(0).err(),
         cabinet.current_value(SETTINGS).err(),
-        cabinet.take_in(5, &[0; 264]).err(),
-        cabinet.take_in(5, &[18, 0, 0, 0, 0, 0, 0, 0]).err(),
-        cabinet.take_in(5, &[]).err(),
-        cabinet.take_in(6, &[]).err(),
+        cabinet.take_in(5, Zero, &[0; 264]).err(),
+        calls::take_in(1, &mut cabinet.clone().into_tables(), 5, 2, &[]).err(),
+        cabinet.take_in(5, Zero, &[18, 0, 0, 0, 0, 0, 0, 0]).err(),
+        cabinet.take_in(5, Zero, &[]).err(),
+        cabinet.take_in(6, Zero, &[]).err(),
         cabinet.standing(6).err(),
         withdrawn.withdraw(5).err(),
         calls::package_out(1, cabinet.tables(), &mut [0; 29]).err(),
     ];
     assert_eq!(refused, Refusal::ALL.map(Some));
-    for (number, refusal) in (1..).zip(Refusal::ALL) {
+    let numbers = [1, 2, 3, 4, 5, 6, 13, 7, 8, 9, 10, 11, 12];
+    for (number, refusal) in numbers.into_iter().zip(Refusal::ALL) {
         assert_eq!(refusal.number(), number);
         assert_eq!(Refusal::from_number(number), Some(refusal));
         assert!(refusal
             .to_string()
             .starts_with(&format!("refused {number}: ")));
     }
-    for number in [0, 13, 255] {
+    for number in [0, 14, 255] {
         assert_eq!(Refusal::from_number(number), None);
     }
 }
@@ -371,6 +383,10 @@ fn answers_read_as_people_say_them() {
             "Invalid, withdrawn",
         ),
         (Refusal::Full.to_string(), "refused 9: the tables are full"),
+        (
+            Refusal::Version.to_string(),
+            "refused 13: the version is above 1",
+        ),
     ] {
         assert_eq!(said, expected);
     }

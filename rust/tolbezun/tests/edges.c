@@ -7,7 +7,7 @@
 
 #define N 2
 static uint16_t held[1], order[N], status[N], withdrawn[N], length[N], read_count[N], write_count[N];
-static uint16_t read_settings[32 * N], write_settings[32 * N];
+static uint16_t read_settings[32 * N], write_settings[32 * N], versions[N];
 static uint64_t timestamps[N];
 static uint8_t programs[256 * N];
 static int32_t seen_values[32 * N], written_values[32 * N], view[1024];
@@ -15,11 +15,11 @@ static int32_t seen_values[32 * N], written_values[32 * N], view[1024];
 #define LENT(CAPACITY)                                                                              \
     CAPACITY, held, 1, timestamps, N, order, N, status, N, withdrawn, N, length, N, programs,       \
         256 * N, read_count, N, write_count, N, read_settings, 32 * N, seen_values, 32 * N,         \
-        write_settings, 32 * N, written_values, 32 * N, view, 1024
+        write_settings, 32 * N, written_values, 32 * N, view, 1024, versions, N
 #define TABLES LENT(N)
 #define NOTHING                                                                                     \
     NULL, 0, NULL, 0, NULL, 0, NULL, 0, NULL, 0, NULL, 0, NULL, 0, NULL, 0, NULL, 0, NULL, 0, NULL, \
-        0, NULL, 0, NULL, 0, NULL, 0
+        0, NULL, 0, NULL, 0, NULL, 0, NULL, 0
 
 /* r0 = -5; setting 1023 = r0 */
 static const uint8_t change[] = {1, 0, 0, 0, 0xFB, 0xFF, 0xFF, 0xFF, 13, 0, 0, 0, 0xFF, 3, 0, 0};
@@ -27,6 +27,12 @@ static const uint8_t change[] = {1, 0, 0, 0, 0xFB, 0xFF, 0xFF, 0xFF, 13, 0, 0, 0
 /* The same twice, so that the second write, at place 3, faults. */
 static const uint8_t twice[] = {1, 0, 0, 0, 0xFB, 0xFF, 0xFF, 0xFF, 13, 0, 0, 0, 0xFF, 3, 0, 0,
                                 1, 0, 0, 0, 0xFB, 0xFF, 0xFF, 0xFF, 13, 0, 0, 0, 0xFF, 3, 0, 0};
+
+/* r0 = -5; setting 1023 = r0; r1 = setting 1023; r1 = r1 + r1; setting 1023 = r1. In version 0 the
+ * read, at place 2, faults. */
+static const uint8_t read_back[] = {1,  0, 0, 0, 0xFB, 0xFF, 0xFF, 0xFF, 13, 0, 0, 0, 0xFF, 3, 0, 0,
+                                    11, 1, 0, 0, 0xFF, 3,    0,    0,    3,  1, 1, 1, 0,    0, 0, 0,
+                                    13, 1, 0, 0, 0xFF, 3,    0,    0};
 
 /* One entry: the withdrawal of 15. */
 static const uint8_t package[] = {1, 0, 15, 0, 0, 0, 0, 0, 0, 0, 1, 0, 0, 0};
@@ -70,26 +76,32 @@ static void package_out(size_t bytes)
     printf("\n");
 }
 
+/* Takes in read_back in this version. */
+static int take_in_read_back(uint64_t timestamp, uint16_t version)
+{
+    return tolbezun_take_in(TABLES, timestamp, version, read_back, sizeof read_back);
+}
+
 /* Sets up, and takes in a change that faults, of console 255, and one that does not, of console 0. */
 static void take_in_faulting(void)
 {
     printf("faulting %d", tolbezun_set_up(TABLES));
-    printf(" %d", tolbezun_take_in(TABLES, 255, twice, sizeof twice));
-    printf(" %d\n", tolbezun_take_in(TABLES, 256, change, sizeof change));
+    printf(" %d", tolbezun_take_in(TABLES, 255, 0, twice, sizeof twice));
+    printf(" %d\n", tolbezun_take_in(TABLES, 256, 0, change, sizeof change));
 }
 
 int main(void)
 {
     printf("set_up %d %d %d\n", tolbezun_set_up(LENT(0)), tolbezun_set_up(LENT(N + 1)), tolbezun_set_up(TABLES));
     printf("nothing lent %d %d\n", tolbezun_set_up(1, NOTHING), tolbezun_plain_run(0, NOTHING, NULL, 0));
-    printf("take_in %d", tolbezun_take_in(TABLES, 1, NULL, 0));
-    printf(" %d", tolbezun_take_in(TABLES, 1, NULL, 0));
-    printf(" %d", tolbezun_take_in(TABLES, 1, change, sizeof change));
-    printf(" %d", tolbezun_take_in(TABLES, UINT64_MAX - 1, change, sizeof change));
-    printf(" %d", tolbezun_take_in(TABLES, 2, change, sizeof change));
-    printf(" %d", tolbezun_take_in(TABLES, UINT64_MAX, change, sizeof change));
-    printf(" %d", tolbezun_take_in(TABLES, 2, change, 7));
-    printf(" %d\n", tolbezun_take_in(TABLES, 2, change + 1, 8));
+    printf("take_in %d", tolbezun_take_in(TABLES, 1, 0, NULL, 0));
+    printf(" %d", tolbezun_take_in(TABLES, 1, 0, NULL, 0));
+    printf(" %d", tolbezun_take_in(TABLES, 1, 0, change, sizeof change));
+    printf(" %d", tolbezun_take_in(TABLES, UINT64_MAX - 1, 1, change, sizeof change));
+    printf(" %d", tolbezun_take_in(TABLES, 2, 0, change, sizeof change));
+    printf(" %d", tolbezun_take_in(TABLES, UINT64_MAX, 0, change, sizeof change));
+    printf(" %d", tolbezun_take_in(TABLES, 2, 0, change, 7));
+    printf(" %d\n", tolbezun_take_in(TABLES, 2, 0, change + 1, 8));
     turn(0);
     turn(1);
     turn(3);
@@ -141,6 +153,22 @@ int main(void)
     turn(2);
     printf("withdraw %d\n", tolbezun_withdraw(TABLES, 255));
     turn(2);
+    printf("versions %d", tolbezun_set_up(TABLES));
+    printf(" %d", take_in_read_back(3, UINT16_MAX));
+    printf(" %d", take_in_read_back(3, 2));
+    printf(" %d", tolbezun_take_in(TABLES, 3, 2, read_back, 7));
+    printf(" %d", tolbezun_take_in(TABLES, 3, 2, read_back + 1, 8));
+    printf(" %d", take_in_read_back(3, 1));
+    printf(" %d", take_in_read_back(3, 0));
+    printf(" %d", take_in_read_back(3, 1));
+    printf(" %d", take_in_read_back(2, 0));
+    printf(": %" PRIu16 " %" PRIu16 "\n", versions[0], versions[1]);
+    turn(2);
+    turn(2);
+    printf("current_value %" PRId64 "\n", tolbezun_current_value(TABLES, 1023));
+    versions[1] = 2;
+    turn(2);
+    versions[1] = 0;
     status[0] = 3;
     printf("not in form %d", tolbezun_withdraw(TABLES, 1));
     printf(" %d", tolbezun_turn(TABLES, values, 2));

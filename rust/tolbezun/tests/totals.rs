@@ -4,6 +4,7 @@ mod programs;
 
 use programs::{copy, set};
 use tolbezun::calls::{self, TOTALS};
+use tolbezun::Version::Zero;
 use tolbezun::{console, Cabinet, Refusal, Taken, Totals, TotalsByConsole, Turned, MAX_CAPACITY};
 
 const HEADING: &str = "console    ran  stood  cleared  faulted";
@@ -133,7 +134,7 @@ fn a_drain_counts_each_turn_for_its_console() {
     let twice = [set(53, 1), set(53, 1)].concat();
     let mut cabinet = Cabinet::new(8).unwrap();
     let take_in = |cabinet: &mut Cabinet, timestamp, program: &[u8]| {
-        assert_eq!(cabinet.take_in(timestamp, program), Ok(Taken::Done));
+        assert_eq!(cabinet.take_in(timestamp, Zero, program), Ok(Taken::Done));
     };
     take_in(&mut cabinet, 0x300, &copy(34, 50));
     take_in(&mut cabinet, 0x401, &copy(34, 51));
@@ -191,7 +192,7 @@ fn the_most_turns_of_one_console() {
 #[test]
 fn a_lent_slice_has_1024_totals() {
     let mut cabinet = Cabinet::new(1).unwrap();
-    assert_eq!(cabinet.take_in(10, &set(34, 7)), Ok(Taken::Done));
+    assert_eq!(cabinet.take_in(10, Zero, &set(34, 7)), Ok(Taken::Done));
     let in_form = cabinet.into_tables();
     let mut out_of_form = in_form.clone();
     out_of_form.held[0] = 2;

@@ -13,7 +13,7 @@ run-at-requires c κs =
 returns : tie.Need-returns
 returns c =
     let r = c .before .before .before .before .before .before .before .before .before .before .before .before .before .before .before .before .pre in
-    (run-of _ (program-part (r .0)) (c .run-at .ensures .0), c .run-at .ensures .1)
+    (run-of _ _ (program-part (r .0)) (c .run-at .ensures .0), c .run-at .ensures .1)
 
 pub run-change-spec : {M : Type 1} → statement M
 run-change-spec =

@@ -12,16 +12,16 @@ use Rattle.drains.proofs.turn_from.Statement.{statement}
 use Rattle.drains.proofs.turn_from.Tie as tie
 
 abbrev Inv-loop : tie.InvT-loop
-Inv-loop first held timestamps order status₀ withdrawn lengths programs reads₀ writes₀ sources₀ seen₀ targets₀ written₀ view₀ totals₀ count before₀ after₀ known₀ readers₀ writers₀ settled₀ k₀ status reads writes sources seen targets written view totals before after known readers writers settled k =
-    Passing (tables held timestamps order status₀ withdrawn lengths programs reads₀ writes₀ sources₀ seen₀ targets₀ written₀ view₀) (tables held timestamps order status withdrawn lengths programs reads writes sources seen targets written view) totals k known before after readers writers settled
+Inv-loop first held timestamps order status₀ withdrawn lengths programs reads₀ writes₀ sources₀ seen₀ targets₀ written₀ view₀ versions totals₀ count before₀ after₀ known₀ readers₀ writers₀ settled₀ k₀ status reads writes sources seen targets written view totals before after known readers writers settled k =
+    Passing (tables held timestamps order status₀ withdrawn lengths programs reads₀ writes₀ sources₀ seen₀ targets₀ written₀ view₀ versions) (tables held timestamps order status withdrawn lengths programs reads writes sources seen targets written view versions) totals k known before after readers writers settled
 
 abbrev μ-loop : tie.MeasureT-loop
-μ-loop first held timestamps order status₀ withdrawn lengths programs reads₀ writes₀ sources₀ seen₀ targets₀ written₀ view₀ totals₀ count before₀ after₀ known₀ readers₀ writers₀ settled₀ k₀ status reads writes sources seen targets written view totals before after known readers writers settled k =
+μ-loop first held timestamps order status₀ withdrawn lengths programs reads₀ writes₀ sources₀ seen₀ targets₀ written₀ view₀ versions totals₀ count before₀ after₀ known₀ readers₀ writers₀ settled₀ k₀ status reads writes sources seen targets written view totals before after known readers writers settled k =
     count - k
 
 -- from a call, or the loop, to what stood before it
 abbrev before-fill-start : tie.After-fill-start Inv-loop μ-loop → tie.Start Inv-loop μ-loop
-before-fill-start c = c .before .before .before .before .before .before .before .before .before .before .before .before .before .before .before
+before-fill-start c = c .before .before .before .before .before .before .before .before .before .before .before .before .before .before .before .before
 
 abbrev before-fill-start2 : tie.After-fill-start2 Inv-loop μ-loop → tie.After-fill-start Inv-loop μ-loop
 before-fill-start2 c = c .before .before .before
@@ -108,8 +108,8 @@ turn-from-spec =
     (tie.spec
     Inv-loop
     μ-loop
-    (λ c. omega (arith, facts (c .before .before .before .before .before .before .before .before .before .before .before .before .before .pre .0) .sizes .held))
-    (λ c. omega (arith, c .shared-slice-known7 .given 0))
+    (λ c. omega (arith, facts (c .before .before .before .before .before .before .before .before .before .before .before .before .before .before .pre .0) .sizes .held))
+    (λ c. omega (arith, c .shared-slice-known8 .given 0))
     (λ c. sym (length-replicate {A = ℤ} 1024 (pos 0)))
     fill-start-requires
     (λ c. sym (length-replicate {A = ℤ} 1024 (pos 0)))

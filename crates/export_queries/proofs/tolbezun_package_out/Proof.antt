@@ -1,5 +1,5 @@
 -- `export_queries::tolbezun_package_out` meets its contract: the number of what `package_out` answers, and the bytes that it leaves. Assumes nothing.
-use Rattle.tables.proofs.Kept.{behind, view-kept}
+use Rattle.tables.proofs.Kept.{behind, behind-tables}
 use Rattle.answer_numbers.specs.Numbers.{packedNumbers}
 use Rattle.answer_numbers.proofs.Numbers.{same-number, of-call}
 use Rattle.export_queries.proofs.tolbezun_package_out.Statement.{statement}
@@ -14,4 +14,4 @@ returns c = of-call packedNumbers (same-number (c .packed-number .ensures)) (cal
 pub tolbezun-package-out-spec : {M : Type 1} → statement M
 tolbezun-package-out-spec =
     tie.close
-    (tie.spec (λ c κs. tt) (λ c κs. tt) (λ c. view-kept (behind (behind (called c .package-out .kept)))) returns)
+    (tie.spec (λ c κs. tt) (λ c κs. tt) (λ c. behind-tables (behind (called c .package-out .kept)) .0) returns)

@@ -7,14 +7,14 @@ use Rattle.form_places.proofs.heads_fit.Statement.{statement}
 use Rattle.form_places.proofs.heads_fit.Tie as tie
 
 abbrev Inv-loop : tie.InvT-loop
-Inv-loop count timestamps status withdrawn reads writes fits₀ i₀ fits i = Tested (headFits timestamps status withdrawn reads writes) count i fits
+Inv-loop count timestamps status withdrawn reads writes versions fits₀ i₀ fits i = Tested (headFits timestamps status withdrawn reads writes versions) count i fits
 
 abbrev μ-loop : tie.MeasureT-loop
-μ-loop count timestamps status withdrawn reads writes fits₀ i₀ fits i = count - i
+μ-loop count timestamps status withdrawn reads writes versions fits₀ i₀ fits i = count - i
 
 loop-again : tie.Need-loop-again Inv-loop μ-loop
 loop-again c =
-    let t = c .before .before .before .before .before .before in
+    let t = c .before .before .before .before .before .before .before in
     test-next (t .loop-test .taken) (c .head-fits .ensures) (t .before .loop .inv)
 
 returns : tie.Need-returns Inv-loop μ-loop
@@ -27,6 +27,8 @@ heads-fit-spec =
     Inv-loop
     μ-loop
     (λ c. test-none)
+    (λ c. search needs)
+    (λ c. search needs)
     (λ c. search needs)
     (λ c. search needs)
     (λ c. search needs)

@@ -38,11 +38,11 @@ returns : tie.Need-returns
 returns c =
     let t = c .before in
     let s = entry (t .before) in
-    refused (s .args .program .now) (s .args .values .now) (lent s) (t .before .run-refusal .ensures) (t .if1 .taken) (c .refused-number .ensures)
+    refused _ (s .args .values .now) (lent s) (t .before .run-refusal .ensures) (t .if1 .taken) (c .refused-number .ensures)
 
 -- what a run that is not refused has
 accepted : (c : tie.Else1) → Sized (lent (entry (c .before))) × (length (entry (c .before) .args .program .now) ≤ 256) × (wellFormed (entry (c .before) .args .program .now) ≡ true)
-accepted c = let s = entry (c .before) in runnable (s .args .program .now) (s .args .values .now) (lent s) (c .before .run-refusal .ensures) (c .if1 .left)
+accepted c = let s = entry (c .before) in runnable _ (s .args .values .now) (lent s) (c .before .run-refusal .ensures) (c .if1 .left)
 
 run-program-requires : tie.Need-run-program-requires
 run-program-requires c κs = let h = accepted (passed c) in (h .1, h .2, search needs)
@@ -79,7 +79,7 @@ returns-2 c =
     let r = has-run q in
     let e = passed (r .before) in
     let s = entry (e .before) in
-    ran (s .args .program .now) (s .args .values .now) (lent s) (e .before .run-refusal .ensures) (e .if1 .left) (r .run-program .ensures)
+    ran _ (s .args .values .now) (lent s) (e .before .run-refusal .ensures) (e .if1 .left) (r .run-program .ensures)
     (q .copy-settings .ensures) (v .copy-values .ensures) (t .copy-settings2 .ensures) (d .copy-values2 .ensures) (c .number-of .ensures)
 
 pub tolbezun-program-run-spec : {M : Type 1} → statement M

@@ -15,17 +15,17 @@ use Rattle.package_intake.proofs.take_entries.Statement.{statement}
 use Rattle.package_intake.proofs.take_entries.Tie as tie
 
 abbrev Inv-loop : tie.InvT-loop
-Inv-loop held₀ timestamps₀ order₀ status₀ withdrawn₀ lengths₀ programs₀ bytes answers₀ count body₀ j₀ left₀ held timestamps order status withdrawn lengths programs answers body j left =
-    (left ≡ ltb j count) × EntriesBefore bytes answers₀ (λ T. withPackage T held₀ timestamps₀ order₀ status₀ withdrawn₀ lengths₀ programs₀) j body (λ T. withPackage T held timestamps order status withdrawn lengths programs) answers
+Inv-loop held₀ timestamps₀ order₀ status₀ withdrawn₀ lengths₀ programs₀ versions₀ bytes answers₀ count body₀ j₀ left₀ held timestamps order status withdrawn lengths programs versions answers body j left =
+    (left ≡ ltb j count) × EntriesBefore bytes answers₀ (λ T. withPackage T held₀ timestamps₀ order₀ status₀ withdrawn₀ lengths₀ programs₀ versions₀) j body (λ T. withPackage T held timestamps order status withdrawn lengths programs versions) answers
 
 abbrev μ-loop : tie.MeasureT-loop
-μ-loop held₀ timestamps₀ order₀ status₀ withdrawn₀ lengths₀ programs₀ bytes answers₀ count body₀ j₀ left₀ held timestamps order status withdrawn lengths programs answers body j left =
+μ-loop held₀ timestamps₀ order₀ status₀ withdrawn₀ lengths₀ programs₀ versions₀ bytes answers₀ count body₀ j₀ left₀ held timestamps order status withdrawn lengths programs versions answers body j left =
     count - j
 
 -- ---- the places of the code, from each the one before
 
-abbrev entry : tie.After-slice-known8 Inv-loop μ-loop → tie.Start Inv-loop μ-loop
-entry c = c .before .before .before .before .before .before .before .before .before
+abbrev entry : tie.After-slice-known9 Inv-loop μ-loop → tie.Start Inv-loop μ-loop
+entry c = c .before .before .before .before .before .before .before .before .before .before
 
 abbrev counted : tie.At-loop Inv-loop μ-loop → tie.After-entry-count Inv-loop μ-loop
 counted c = c .before .before
@@ -33,11 +33,11 @@ counted c = c .before .before
 abbrev start : tie.At-loop Inv-loop μ-loop → tie.Start Inv-loop μ-loop
 start c = entry (counted c .before)
 
-abbrev asked : tie.After-take-entry-arg7 Inv-loop μ-loop → tie.In-loop Inv-loop μ-loop
-asked c = c .before .before .before .before .before .before .before
+abbrev asked : tie.After-take-entry-arg8 Inv-loop μ-loop → tie.In-loop Inv-loop μ-loop
+asked c = c .before .before .before .before .before .before .before .before
 
-abbrev taken : tie.After-slice-known15 Inv-loop μ-loop → tie.After-take-entry Inv-loop μ-loop
-taken c = c .before .before .before .before .before .before .before .before .before .before .before .before .before .before
+abbrev taken : tie.After-slice-known17 Inv-loop μ-loop → tie.After-take-entry Inv-loop μ-loop
+taken c = c .before .before .before .before .before .before .before .before .before .before .before .before .before .before .before .before
 
 abbrev turn : tie.After-answer-number Inv-loop μ-loop → tie.In-loop Inv-loop μ-loop
 turn c = asked (taken (c .before) .before)
@@ -47,12 +47,12 @@ turn c = asked (taken (c .before) .before)
 abbrev lent : tie.Start Inv-loop μ-loop → Tables → Tables
 lent s T =
     let a = s .args in
-    withPackage T (a .held .now) (a .timestamps .now) (a .order .now) (a .status .now) (a .withdrawn .now) (a .lengths .now) (a .programs .now)
+    withPackage T (a .held .now) (a .timestamps .now) (a .order .now) (a .status .now) (a .withdrawn .now) (a .lengths .now) (a .programs .now) (a .versions .now)
 
 abbrev current : tie.At-loop Inv-loop μ-loop → Tables → Tables
 current c T =
     let l = c .loop in
-    withPackage T (l .held) (l .timestamps) (l .order) (l .status) (l .withdrawn) (l .lengths) (l .programs)
+    withPackage T (l .held) (l .timestamps) (l .order) (l .status) (l .withdrawn) (l .lengths) (l .programs) (l .versions)
 
 -- ---- what the loop knows
 
@@ -121,5 +121,6 @@ take-entries-spec =
     (λ c. ended (c .before) .withdrawn ∙ sym (begun (start (c .before)) .withdrawn))
     (λ c. ended (c .before) .lengths ∙ sym (begun (start (c .before)) .lengths))
     (λ c. ended (c .before) .programs ∙ sym (begun (start (c .before)) .programs))
+    (λ c. ended (c .before) .versions ∙ sym (begun (start (c .before)) .versions))
     (λ c. still-sized (start (c .before) .pre) (c .before .loop .inv .1))
     returns)

@@ -7,7 +7,7 @@ use lib.ListN.{length}
 use Rattle.model.specs.Tables.{Tables, withPackage}
 use Rattle.model.specs.Package.{itemAt}
 use Rattle.tables.proofs.Kept.{held-kept, timestamps-kept, order-kept, status-kept, withdrawn-kept}
-use Rattle.taking.proofs.Kept.{lengths-kept, programs-kept}
+use Rattle.taking.proofs.Kept.{lengths-kept, programs-kept, versions-kept}
 use Rattle.packages.proofs.Items.{item-taking, item-withdrawing}
 use Rattle.package_intake.proofs.Entries.{bytes-short, entry-inside, body-inside, formed-on, answered-on}
 use Rattle.package_intake.proofs.take_entry.Statement.{statement}
@@ -17,12 +17,12 @@ use Rattle.package_intake.proofs.take_entry.Tie as tie
 abbrev lent : tie.Start → Tables → Tables
 lent s T =
     let a = s .args in
-    withPackage T (a .held .now) (a .timestamps .now) (a .order .now) (a .status .now) (a .withdrawn .now) (a .lengths .now) (a .programs .now)
+    withPackage T (a .held .now) (a .timestamps .now) (a .order .now) (a .status .now) (a .withdrawn .now) (a .lengths .now) (a .programs .now) (a .versions .now)
 
 -- ---- the places of the code, from each the one before
 
 abbrev entry : tie.After-shared-slice-known → tie.Start
-entry c = c .before .before .before .before .before .before .before .before
+entry c = c .before .before .before .before .before .before .before .before .before
 
 abbrev start : tie.After-kind-at → tie.Start
 start c = entry (c .before .before)
@@ -30,16 +30,16 @@ start c = entry (c .before .before)
 abbrev kinded : tie.After-count-at → tie.After-kind-at
 kinded c = c .before .before
 
-abbrev counted : tie.After-take-item-arg5 → tie.After-count-at
-counted c = c .before .before .before .before .before
+abbrev counted : tie.After-take-item-arg6 → tie.After-count-at
+counted c = c .before .before .before .before .before .before
 
-abbrev taken : tie.After-slice-known12 → tie.After-take-item
-taken c = c .before .before .before .before .before .before .before .before .before .before
+abbrev taken : tie.After-slice-known14 → tie.After-take-item
+taken c = c .before .before .before .before .before .before .before .before .before .before .before .before
 
 abbrev other : tie.After-withdraw-item-arg5 → tie.Else1
 other c = c .before .before .before .before .before
 
-abbrev withdrew : tie.After-slice-known14 → tie.After-withdraw-item
+abbrev withdrew : tie.After-slice-known16 → tie.After-withdraw-item
 withdrew c = c .before .before .before .before
 
 -- ---- needs
@@ -52,17 +52,18 @@ ends c =
 
 take-item-requires : tie.Need-take-item-requires
 take-item-requires c κs =
-    let s = start (kinded (counted (c .before))) in
+    let s = start (kinded (counted (c .before .before))) in
     formed-on (lent s) (s .pre .formed)
 
 returns : tie.Need-returns
 returns c =
     let i = taken c in
-    let k = counted (i .before .before) in
+    let v = i .before .before in
+    let k = counted (v .before) in
     let q = kinded k in
     let s = start q in
     answered-on (lent s) (itemAt (s .args .bytes .now) (s .args .j)) (i .take-item .ensures)
-    (item-taking (s .args .bytes .now) (s .args .j) (q .before .timestamp-at .ensures) (sym (q .kind-at .ensures) ∙ k .before .if1 .taken) (s .pre .begins) (k .count-at .ensures))
+    (item-taking (s .args .bytes .now) (s .args .j) (q .before .timestamp-at .ensures) (sym (q .kind-at .ensures) ∙ k .before .if1 .taken) (s .pre .begins) (k .count-at .ensures) (v .version-at .ensures))
 
 withdraw-item-requires : tie.Need-withdraw-item-requires
 withdraw-item-requires c κs =
@@ -87,15 +88,17 @@ take-entry-spec =
     (λ c κs. entry-inside (start (c .before) .pre))
     (λ c. omega (arith, ends c .0, ends c .1))
     (λ c. omega (arith, ends c .0, ends c .1))
+    (λ c κs. entry-inside (start (kinded (counted c)) .pre))
     (λ c. search needs)
     (λ c. search needs)
-    (λ c. omega (arith, ends (counted c) .0))
+    (λ c. omega (arith, ends (counted (c .before)) .0))
     take-item-requires
     (λ c. held-kept (taken c .take-item .kept))
     (λ c. timestamps-kept (taken c .take-item .kept))
     (λ c. order-kept (taken c .take-item .kept))
     (λ c. lengths-kept (taken c .take-item .kept))
     (λ c. programs-kept (taken c .take-item .kept))
+    (λ c. versions-kept (taken c .take-item .kept))
     returns
     withdraw-item-requires
     (λ c. refl)

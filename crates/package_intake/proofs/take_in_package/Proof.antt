@@ -15,15 +15,15 @@ use Rattle.package_intake.proofs.take_in_package.Tie as tie
 abbrev lent : tie.Start → Tables
 lent s =
     let a = s .args in
-    tables (a .held .now) (a .timestamps .now) (a .order .now) (a .status .now) (a .withdrawn .now) (a .lengths .now) (a .programs .now) (a .reads .now) (a .writes .now) (a .sources .now) (a .seen .now) (a .targets .now) (a .written .now) (a .view .now)
+    tables (a .held .now) (a .timestamps .now) (a .order .now) (a .status .now) (a .withdrawn .now) (a .lengths .now) (a .programs .now) (a .reads .now) (a .writes .now) (a .sources .now) (a .seen .now) (a .targets .now) (a .written .now) (a .view .now) (a .versions .now)
 
 -- ---- the places of the code, from each the one before
 
-abbrev entry : tie.After-slice-known8 → tie.Start
-entry c = c .before .before .before .before .before .before .before .before .before .before .before .before .before
+abbrev entry : tie.After-slice-known9 → tie.Start
+entry c = c .before .before .before .before .before .before .before .before .before .before .before .before .before .before
 
 abbrev sized : tie.After-fault → tie.Else1
-sized c = c .before .before .before .before .before .before .before .before
+sized c = c .before .before .before .before .before .before .before .before .before
 
 abbrev start : tie.After-fault → tie.Start
 start c = entry (sized c .before)
@@ -31,11 +31,11 @@ start c = entry (sized c .before)
 abbrev faulted : tie.Else2 → tie.After-fault
 faulted c = c .before .before
 
-abbrev accepted : tie.After-take-entries-arg8 → tie.Else2
-accepted c = c .before .before .before .before .before .before .before .before
+abbrev accepted : tie.After-take-entries-arg9 → tie.Else2
+accepted c = c .before .before .before .before .before .before .before .before .before
 
-abbrev taken : tie.After-slice-known16 → tie.After-take-entries
-taken c = c .before .before .before .before .before .before .before .before .before .before .before .before .before .before .before .before
+abbrev taken : tie.After-slice-known18 → tie.After-take-entries
+taken c = c .before .before .before .before .before .before .before .before .before .before .before .before .before .before .before .before .before .before
 
 -- ---- needs
 
@@ -85,6 +85,7 @@ take-in-package-spec =
     (λ c. refl)
     (λ c. refl)
     (λ c. refl)
+    (λ c. refl)
     returns-2
     take-entries-requires
     (λ c. held-kept (taken c .take-entries .kept))
@@ -94,5 +95,6 @@ take-in-package-spec =
     (λ c. withdrawn-kept (taken c .take-entries .kept))
     (λ c. lengths-kept (taken c .take-entries .kept))
     (λ c. programs-kept (taken c .take-entries .kept))
-    (λ c. programs-kept (behind (behind (taken c .take-entries .kept))))
+    (λ c. programs-kept (behind (taken c .take-entries .kept)))
+    (λ c. programs-kept (behind (behind (behind (taken c .take-entries .kept)))))
     returns-3)

@@ -14,7 +14,7 @@ use Rattle.packing.proofs.put_package.Tie as tie
 
 -- the entry, from where the entries and from where the instructions are counted
 abbrev started : tie.After-total → tie.Start
-started c = c .before .before .before .before .before .before .before
+started c = c .before .before .before .before .before .before .before .before
 
 abbrev entry : tie.After-total2 → tie.Start
 entry c = started (c .before)
@@ -38,7 +38,7 @@ counted : (c : tie.After-total) → let a = started c .args in a .count + c .tot
 counted c = ap (λ (k : ℕ). started c .args .count + k) (c .total .ensures)
 
 -- how long the package is
-sized : (c : tie.After-total2) → let a = entry c .args in 2 + 12 * (a .count + c .before .total .result) + 8 * c .total2 .result ≡ length (packageIn (a .order .now) (a .timestamps .now) (a .withdrawn .now) (a .lengths .now) (a .programs .now) (a .count))
+sized : (c : tie.After-total2) → let a = entry c .args in 2 + 12 * (a .count + c .before .total .result) + 8 * c .total2 .result ≡ length (packageIn (a .order .now) (a .timestamps .now) (a .withdrawn .now) (a .lengths .now) (a .programs .now) (a .versions .now) (a .count))
 sized c = omega (arith, counted (c .before), c .total2 .ensures, package-length (entry c .pre))
 
 -- within its limits and the slice
@@ -47,7 +47,7 @@ fits c = limits (entry (c .before) .pre) (entry (c .before) .args .bytes .now) (
 
 total-requires : tie.Need-total-requires
 total-requires c κs =
-    let h = c .before .before .before .before .before .before .pre in
+    let h = c .before .before .before .before .before .before .before .pre in
     (h .small, rw (h .flags) (h .placed))
 
 total-requires-2 : tie.Need-total-requires-2
@@ -70,7 +70,7 @@ put-changes-requires c κs =
     let n = c .before .before .before in
     let e = tested n in
     let h = entry (e .before) .pre in
-    (h .placed, h .sizes, h .short, omega (arith, n .put-little-endian .ensures .ends, n .put-little-endian .kept .1 .1 .0, fits e .2))
+    (h .placed, h .sizes, h .short, h .versioned, h .version, omega (arith, n .put-little-endian .ensures .ends, n .put-little-endian .kept .1 .1 .0, fits e .2))
 
 put-withdrawals-requires : tie.Need-put-withdrawals-requires
 put-withdrawals-requires c κs =
@@ -79,7 +79,7 @@ put-withdrawals-requires c κs =
     let e = tested n in
     let s = entry (e .before) in
     let h = s .pre in
-    (h .placed, h .flags, h .flag, omega (arith, n .put-little-endian .ensures .ends, n .put-little-endian .kept .1 .1 .0, p .put-changes .ensures .ends, p .put-changes .kept .1 .1 .1 .1 .0, changes-length (s .args .order .now) (s .args .timestamps .now) (s .args .lengths .now) (s .args .count), e .before .before .total .ensures, fits e .2))
+    (h .placed, h .flags, h .flag, omega (arith, n .put-little-endian .ensures .ends, n .put-little-endian .kept .1 .1 .0, p .put-changes .ensures .ends, p .put-changes .kept .1 .1 .1 .1 .1 .0, changes-length (s .args .order .now) (s .args .timestamps .now) (s .args .lengths .now) (s .args .versions .now) (s .args .count), e .before .before .total .ensures, fits e .2))
 
 put-bodies-requires : tie.Need-put-bodies-requires
 put-bodies-requires c κs =
@@ -89,10 +89,10 @@ put-bodies-requires c κs =
     let e = tested n in
     let s = entry (e .before) in
     let h = s .pre in
-    (rw (h .sizes) (h .placed), h .blocks ∙ ap (256 *_) (sym (h .sizes)), h .short, omega (arith, n .put-little-endian .ensures .ends, n .put-little-endian .kept .1 .1 .0, p .put-changes .ensures .ends, p .put-changes .kept .1 .1 .1 .1 .0, w .put-withdrawals .ensures .ends, w .put-withdrawals .kept .1 .1 .1 .1 .0, changes-length (s .args .order .now) (s .args .timestamps .now) (s .args .lengths .now) (s .args .count), withdrawals-length (s .args .order .now) (s .args .timestamps .now) (s .args .withdrawn .now) (h .flag) (s .args .count), e .before .before .total .ensures, e .before .total2 .ensures, fits e .2))
+    (rw (h .sizes) (h .placed), h .blocks ∙ ap (256 *_) (sym (h .sizes)), h .short, omega (arith, n .put-little-endian .ensures .ends, n .put-little-endian .kept .1 .1 .0, p .put-changes .ensures .ends, p .put-changes .kept .1 .1 .1 .1 .1 .0, w .put-withdrawals .ensures .ends, w .put-withdrawals .kept .1 .1 .1 .1 .0, changes-length (s .args .order .now) (s .args .timestamps .now) (s .args .lengths .now) (s .args .versions .now) (s .args .count), withdrawals-length (s .args .order .now) (s .args .timestamps .now) (s .args .withdrawn .now) (h .flag) (s .args .count), e .before .before .total .ensures, e .before .total2 .ensures, fits e .2))
 
 -- the whole package
-put : (c : tie.After-put-bodies) → let w = cleared c in let p = changed w in let n = numbered p in let a = entry (tested n .before) .args in Put 0 (packageIn (a .order .now) (a .timestamps .now) (a .withdrawn .now) (a .lengths .now) (a .programs .now) (a .count)) (a .bytes .now) (c .put-bodies .last .1 .1 .1 .1 .0) (c .put-bodies .result)
+put : (c : tie.After-put-bodies) → let w = cleared c in let p = changed w in let n = numbered p in let a = entry (tested n .before) .args in Put 0 (packageIn (a .order .now) (a .timestamps .now) (a .withdrawn .now) (a .lengths .now) (a .programs .now) (a .versions .now) (a .count)) (a .bytes .now) (c .put-bodies .last .1 .1 .1 .1 .0) (c .put-bodies .result)
 put c =
     let w = cleared c in
     let p = changed w in

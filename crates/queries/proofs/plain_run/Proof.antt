@@ -16,10 +16,10 @@ use Rattle.queries.proofs.plain_run.Tie as tie
 abbrev lent : tie.Start → Tables
 lent s =
     let a = s .args in
-    tables (a .held .now) (a .timestamps .now) (a .order .now) (a .status .now) (a .withdrawn .now) (a .lengths .now) (a .programs .now) (a .reads .now) (a .writes .now) (a .sources .now) (a .seen .now) (a .targets .now) (a .written .now) (a .view .now)
+    tables (a .held .now) (a .timestamps .now) (a .order .now) (a .status .now) (a .withdrawn .now) (a .lengths .now) (a .programs .now) (a .reads .now) (a .writes .now) (a .sources .now) (a .seen .now) (a .targets .now) (a .written .now) (a .view .now) (a .versions .now)
 
-abbrev entry : tie.After-shared-slice-known11 → tie.Start
-entry c = c .before .before .before .before .before .before .before .before .before .before .before
+abbrev entry : tie.After-shared-slice-known12 → tie.Start
+entry c = c .before .before .before .before .before .before .before .before .before .before .before .before
 
 abbrev entered : tie.After-fault → tie.Start
 entered c = entry (c .before .before)

@@ -25,14 +25,14 @@ propagate-requires : tie.Need-propagate-requires
 propagate-requires c κs =
     let at-new-lists = c .before .before .before .before .before .before .before .before .before .before .before .before .before in
     let start = before-new-lists at-new-lists in
-    propagable (start .pre .1) (start .pre .0) (at-new-lists .new-lists .ensures)
+    propagable (start .pre .1) _ (start .pre .0) (at-new-lists .new-lists .ensures)
 
 put-lists-requires : tie.Need-put-lists-requires
 put-lists-requires c κs =
     let at-propagate = c .before .before .before .before .before .before .before .before .before .before .before .before .before .before in
     let at-new-lists = before-propagate at-propagate in
     let start = before-new-lists at-new-lists in
-    storable (start .pre .1) (start .pre .0) (at-new-lists .new-lists .ensures)
+    storable (start .pre .1) _ (start .pre .0) (at-new-lists .new-lists .ensures)
 
 returns : tie.Need-returns
 returns c =

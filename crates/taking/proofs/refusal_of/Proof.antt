@@ -1,4 +1,5 @@
 -- `taking::refusal_of` meets its contract: the tests of the code are those of the definition, in order. Assumes nothing.
+use borrow.Author.Tests.{le-leb, lt-leb}
 use Rattle.taking.proofs.refusal_of.Statement.{statement}
 use Rattle.taking.proofs.refusal_of.Tie as tie
 
@@ -12,16 +13,24 @@ returns-2 c =
 
 returns-3 : tie.Need-returns-3
 returns-3 c =
-    let l = c .before .before in
+    let l = c .before in
     let t = l .before .before in
-    rw (← t .before .is-timestamp .ensures, t .if1 .left, ← l .before .length-fits .ensures, l .if2 .left, ← c .before .well-formed .ensures, c .if3 .taken)
+    rw (← t .before .is-timestamp .ensures, t .if1 .left, ← l .before .length-fits .ensures, l .if2 .left, lt-leb _ 1 (c .if3 .taken))
 
 returns-4 : tie.Need-returns-4
 returns-4 c =
-    let l = c .before .before in
+    let v = c .before .before in
+    let l = v .before in
     let t = l .before .before in
-    rw (← t .before .is-timestamp .ensures, t .if1 .left, ← l .before .length-fits .ensures, l .if2 .left, ← c .before .well-formed .ensures, c .if3 .left)
+    rw (← t .before .is-timestamp .ensures, t .if1 .left, ← l .before .length-fits .ensures, l .if2 .left, le-leb _ 1 (v .if3 .left), ← c .before .well-formed .ensures, c .if4 .taken)
+
+returns-5 : tie.Need-returns-5
+returns-5 c =
+    let v = c .before .before in
+    let l = v .before in
+    let t = l .before .before in
+    rw (← t .before .is-timestamp .ensures, t .if1 .left, ← l .before .length-fits .ensures, l .if2 .left, le-leb _ 1 (v .if3 .left), ← c .before .well-formed .ensures, c .if4 .left)
 
 pub refusal-of-spec : {M : Type 1} → statement M
 refusal-of-spec =
-    tie.close (tie.spec (λ c κs. tt) returns (λ c κs. tt) returns-2 (λ c κs. tt) returns-3 returns-4)
+    tie.close (tie.spec (λ c κs. tt) returns (λ c κs. tt) returns-2 returns-3 (λ c κs. tt) returns-4 returns-5)

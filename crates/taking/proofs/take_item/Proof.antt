@@ -2,6 +2,7 @@
 use mathlib.Core.Path.{refl, sym, _∙_}
 use native.Mathlib.Omega.{arith}
 use lib.ListN.{length-set}
+use Rattle.machine.specs.Instruction.{code}
 use Rattle.model.specs.Tables.{Tables, withTaking}
 use Rattle.model.specs.Package.{taking}
 use Rattle.model.proofs.Form.{facts}
@@ -16,7 +17,7 @@ use Rattle.taking.proofs.take_item.Tie as tie
 abbrev lent : tie.Start → Tables → Tables
 lent s T =
     let a = s .args in
-    withTaking T (a .held .now) (a .timestamps .now) (a .order .now) (a .lengths .now) (a .programs .now)
+    withTaking T (a .held .now) (a .timestamps .now) (a .order .now) (a .lengths .now) (a .programs .now) (a .versions .now)
 
 abbrev whole : tie.Start → Tables
 whole s = lent s (s .pre .others)
@@ -24,7 +25,7 @@ whole s = lent s (s .pre .others)
 -- ---- the places of the code, from each the one before
 
 abbrev entry : tie.After-refusal-of → tie.Start
-entry c = c .before .before .before .before .before .before .before
+entry c = c .before .before .before .before .before .before .before .before
 
 abbrev passed : tie.After-held-count → tie.Else1
 passed c = c .before .before
@@ -35,16 +36,16 @@ counted c = c .before .before .before
 abbrev ranked : tie.After-stamped-at → tie.After-rank
 ranked c = c .before .before .before
 
-abbrev compared : tie.After-compare-arg2 → tie.Then2
-compared c = c .before .before .before
+abbrev compared : tie.After-compare-arg3 → tie.Then2
+compared c = c .before .before .before .before
 
 abbrev other : tie.Else3 → tie.After-stamped-at
 other c = c .before .before
 
-abbrev ordered : tie.After-slice-known7 → tie.Else3
+abbrev ordered : tie.After-slice-known8 → tie.Else3
 ordered c = c .before .before .before .before
 
-abbrev stored : tie.After-slice-known8 → tie.After-slice-known7
+abbrev stored : tie.After-slice-known9 → tie.After-slice-known8
 stored c = c .before .before .before .before
 
 abbrev start : tie.After-rank → tie.Start
@@ -52,7 +53,7 @@ start c = entry (passed (counted c) .before)
 
 -- ---- what the tests and the search tell
 
-fits : (c : tie.After-rank) → Acceptable (start c .args .timestamp) (start c .args .program .now)
+fits : (c : tie.After-rank) → Acceptable (start c .args .timestamp) (code (start c .args .version) (start c .args .program .now))
 fits c =
     let u = passed (counted c) in
     acceptable _ _ (sym (u .before .refusal-of .ensures) ∙ u .if1 .left)
@@ -65,7 +66,7 @@ holds c =
     let r = ranked (c .before) in
     place-held (start r .pre .formed) (at-rank r (start r .pre .others)) (sym (c .before .stamped-at .ensures) ∙ c .if2 .taken)
 
-room : (c : tie.Else3) → let r = ranked (other c) in let s = start r in Room (s .pre .capacity) (whole s) (s .args .program .now) (counted r .held-count .result) (r .rank .result)
+room : (c : tie.Else3) → let r = ranked (other c) in let s = start r in Room (s .pre .capacity) (whole s) (code (s .args .version) (s .args .program .now)) (counted r .held-count .result) (r .rank .result)
 room c =
     let r = ranked (other c) in
     room-left (start r .pre .formed) (at-rank r (start r .pre .others)) (fits r) (c .if3 .left)
@@ -89,7 +90,7 @@ stamped-at-requires c κs =
 returns : tie.Need-returns
 returns c =
     let a = entry (c .before) .args in
-    record { answered = λ T g. item-replied (taking (a .timestamp) (a .program .now)) g (refused _ _ _ _ (c .before .refusal-of .ensures) (c .if1 .taken)) refl }
+    record { answered = λ T g. item-replied (taking (a .timestamp) (code (a .version) (a .program .now))) g (refused _ _ _ _ (c .before .refusal-of .ensures) (c .if1 .taken)) refl }
 
 returns-2 : tie.Need-returns-2
 returns-2 c =
@@ -124,8 +125,9 @@ take-item-spec =
     stamped-at-requires
     (λ c. omega (arith, holds c .within))
     (λ c. omega (arith, holds (c .before) .within))
-    (λ c. omega (arith, c .slice-known6 .given (ranked (c .before .before) .rank .result)))
-    (λ c κs. let h = holds (compared c) in (h .place, h .blocks, h .short))
+    (λ c. omega (arith, c .slice-known7 .given (ranked (c .before .before) .rank .result)))
+    (λ c κs. let h = holds (compared c) in (h .place, h .blocks, h .short, h .versioned))
+    (λ c. refl)
     (λ c. refl)
     (λ c. refl)
     (λ c. refl)
@@ -143,6 +145,8 @@ take-item-spec =
     (λ c. omega (arith, room (ordered c)))
     (λ c. omega (arith, room (ordered c)))
     (λ c. omega (arith, room (ordered c)))
+    (λ c. omega (arith, room (ordered c)))
+    (λ c. omega (arith, room (ordered c)))
     (λ c κs. omega (arith, room (ordered (c .before))))
     (λ c. omega (arith, room (ordered (stored c))))
     (λ c. omega (arith, room (ordered (stored c))))
@@ -152,4 +156,5 @@ take-item-spec =
     (λ c. stored c .before .before .enter-next .kept .1 .1 .0)
     (λ c. simp length-set)
     (λ c. c .before .before .copy-in .kept .1 .1 .0)
+    (λ c. simp length-set)
     returns-4)

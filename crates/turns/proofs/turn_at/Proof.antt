@@ -9,7 +9,7 @@ use Rattle.turns.proofs.turn_at.Tie as tie
 
 -- from a call, or the loop, to what stood before it
 abbrev before-decide : tie.After-decide → tie.Start
-before-decide c = c .before .before .before .before .before .before .before .before .before .before .before .before .before .before .before .before .before .before .before .before .before .before .before .before
+before-decide c = c .before .before .before .before .before .before .before .before .before .before .before .before .before .before .before .before .before .before .before .before .before .before .before .before .before .before
 
 abbrev before-stands : tie.After-stands → tie.After-decide
 before-stands c = c .before
@@ -28,7 +28,7 @@ called c = c .before .before .before .before .before .before .before .before .be
 
 decide-requires : tie.Need-decide-requires
 decide-requires c κs =
-    let start = c .before .before .before .before .before .before .before .before .before .before .before .before .before .before .before .before .before .before .before .before .before .before .before in
+    let start = c .before .before .before .before .before .before .before .before .before .before .before .before .before .before .before .before .before .before .before .before .before .before .before .before .before in
     decision (start .pre)
 
 carry-place-requires : tie.Need-carry-place-requires
@@ -70,17 +70,19 @@ returns-2 c =
     let at-stands = before-moving at-moving in
     let at-decide = before-stands at-stands in
     let start = before-decide at-decide in
-    turn-moves (start .pre) (at-decide .decide .ensures) (at-note-uses .note-uses .ensures) (moves (start .pre) (at-decide .decide .ensures) (at-stands .stands .ensures) (at-moving .if1 .left)) refl (at-replace .replace .ensures) refl (c .answer-of .ensures)
+    turn-moves (start .pre) (at-decide .decide .ensures) (at-note-uses .note-uses .ensures) (moves (start .pre) (at-decide .decide .ensures) (at-stands .stands .ensures) (at-moving .if1 .left)) refl refl (at-replace .replace .ensures) refl (c .answer-of .ensures)
 
 pub turn-at-spec : {M : Type 1} → statement M
 turn-at-spec =
     tie.close
     (tie.spec
-    (λ c. let z = turn-slots (c .before .before .before .before .before .before .before .before .before .before .before .pre) in omega (arith, z .position, z .few))
-    (λ c. turn-slots (c .before .before .before .before .before .before .before .before .before .before .before .before .pre) .order)
-    (λ c. omega (arith, turn-slots (c .before .before .before .before .before .before .before .before .before .before .before .before .pre) .place))
-    (λ c. omega (arith, turn-slots (c .before .before .before .before .before .before .before .before .before .before .before .before .pre) .place))
-    (λ c. turn-slots (c .before .before .before .before .before .before .before .before .before .before .before .before .before .pre) .timestamps)
+    (λ c. let z = turn-slots (c .before .before .before .before .before .before .before .before .before .before .before .before .pre) in omega (arith, z .position, z .few))
+    (λ c. turn-slots (c .before .before .before .before .before .before .before .before .before .before .before .before .before .pre) .order)
+    (λ c. omega (arith, turn-slots (c .before .before .before .before .before .before .before .before .before .before .before .before .before .pre) .place))
+    (λ c. omega (arith, turn-slots (c .before .before .before .before .before .before .before .before .before .before .before .before .before .pre) .place))
+    (λ c. turn-slots (c .before .before .before .before .before .before .before .before .before .before .before .before .before .before .pre) .timestamps)
+    (λ c. omega (arith, turn-slots (c .before .before .before .before .before .before .before .before .before .before .before .before .before .before .pre) .place))
+    (λ c. turn-slots (c .before .before .before .before .before .before .before .before .before .before .before .before .before .before .before .pre) .versions)
     decide-requires
     (λ c κs. search needs)
     carry-place-requires
@@ -100,14 +102,14 @@ turn-at-spec =
     note-uses-requires
     replace-requires
     (λ c. omega (arith, turn-slots ((before-decide (before-stands (before-moving (before-note-uses (before-replace (c .before .before .before .before .before .before .before .before .before .before .before .before .before)))))) .pre) .place))
-    (λ c. omega (arith, turn-slots ((before-decide (before-stands (before-moving (before-note-uses (before-replace (c .before .before .before .before .before .before .before .before .before .before .before .before .before)))))) .pre) .status, c .before .before .before .before .before .before .before .before .before .before .before .before .before .replace .kept .1 .1 .1 .0))
+    (λ c. omega (arith, turn-slots ((before-decide (before-stands (before-moving (before-note-uses (before-replace (c .before .before .before .before .before .before .before .before .before .before .before .before .before)))))) .pre) .status, c .before .before .before .before .before .before .before .before .before .before .before .before .before .replace .kept .1 .1 .1 .1 .0))
     (λ c κs. search needs)
-    (λ c. simp length-set (called c .replace .kept .1 .1 .1 .0))
-    (λ c. called c .replace .kept .1 .1 .1 .1 .1 .1 .0)
+    (λ c. simp length-set (called c .replace .kept .1 .1 .1 .1 .0))
     (λ c. called c .replace .kept .1 .1 .1 .1 .1 .1 .1 .0)
     (λ c. called c .replace .kept .1 .1 .1 .1 .1 .1 .1 .1 .0)
     (λ c. called c .replace .kept .1 .1 .1 .1 .1 .1 .1 .1 .1 .0)
     (λ c. called c .replace .kept .1 .1 .1 .1 .1 .1 .1 .1 .1 .1 .0)
     (λ c. called c .replace .kept .1 .1 .1 .1 .1 .1 .1 .1 .1 .1 .1 .0)
     (λ c. called c .replace .kept .1 .1 .1 .1 .1 .1 .1 .1 .1 .1 .1 .1 .0)
+    (λ c. called c .replace .kept .1 .1 .1 .1 .1 .1 .1 .1 .1 .1 .1 .1 .1 .0)
     returns-2)

@@ -6,7 +6,7 @@ use borrow.Author.Needs.{sfits-of}
 use mir.Facts.{toZ-ofZ}
 use Rattle.machine.specs.declared.Instruction.{Instruction}
 use Rattle.machine.specs.Settings.{Environment}
-use Rattle.machine.specs.Instruction.{instructionAt, instructionCount}
+use Rattle.machine.specs.Instruction.{instructionAt, instructionCount, code}
 use Rattle.machine.specs.Run.{effect, wanted}
 use Rattle.run_record.specs.Record.{lists, Ran}
 use Rattle.bytecode.proofs.Numbers.{read}
@@ -18,12 +18,12 @@ use Rattle.values.proofs.run_at.Statement.{statement}
 use Rattle.values.proofs.run_at.Tie as tie
 
 abbrev Inv-loop : tie.InvT-loop
-Inv-loop program k order writes targets written before₀ after₀ known₀ sources₀ seen₀ targets₀ written₀ count run₀ place₀ before after known sources seen new-targets new-written run place =
+Inv-loop version program k order writes targets written before₀ after₀ known₀ sources₀ seen₀ targets₀ written₀ count run₀ place₀ before after known sources seen new-targets new-written run place =
     let env = valuesBelow order writes targets written k in
-    Reached (onSettings env) program run (lists sources seen new-targets new-written) × (run .place ≡ place) × Looked env known₀ known before after
+    Reached (onSettings env) (code version program) run (lists sources seen new-targets new-written) × (run .place ≡ place) × Looked env known₀ known before after
 
 abbrev μ-loop : tie.MeasureT-loop
-μ-loop program k order writes targets written before₀ after₀ known₀ sources₀ seen₀ targets₀ written₀ count run₀ place₀ before after known sources seen new-targets new-written run place =
+μ-loop version program k order writes targets written before₀ after₀ known₀ sources₀ seen₀ targets₀ written₀ count run₀ place₀ before after known sources seen new-targets new-written run place =
     count - place
 
 abbrev entry : tie.At-loop Inv-loop μ-loop → tie.Start Inv-loop μ-loop
@@ -82,7 +82,7 @@ returns c =
     let e = effected v in
     let l = head e in
     let s = entry l in (
-      subst (Ran _ _) (run-on-settings (upto s) (s .args .program .now) (s .pre .0))
+      subst (Ran _ _) (run-on-settings (upto s) _ (s .pre .0))
           (has-ended _ _ (s .pre .0) (l .loop .inv .0) (within e) (effect-is e) (value-is v) (p .perform .ensures) (c .if1 .taken)),
       looked-more (l .loop .inv .2) (v .wanted-value .ensures .1),
     )
@@ -105,7 +105,7 @@ returns-2 : tie.Need-returns-2 Inv-loop μ-loop
 returns-2 c =
     let s = entry (c .before) in
     let h = c .before .loop .inv in
-    (subst (Ran _ _) (run-on-settings (upto s) (s .args .program .now) (s .pre .0)) (ends _ _ (s .pre .0) (h .0) (omega arith)), h .2)
+    (subst (Ran _ _) (run-on-settings (upto s) _ (s .pre .0)) (ends _ _ (s .pre .0) (h .0) (omega arith)), h .2)
 
 pub run-at-spec : {M : Type 1} → statement M
 run-at-spec =

@@ -18,6 +18,7 @@ fn short() -> Tables {
         write_settings: vec![],
         written_values: vec![-10],
         view: vec![11],
+        version: vec![12, 13],
     }
 }
 
@@ -27,7 +28,7 @@ const SHORT: &str = concat!(
     r#""withdrawn": [4], "length": [5], "programs": [0, 255], "read_count": [6], "#,
     r#""write_count": [0, 65535], "read_settings": [7, 8, 9], "#,
     r#""seen_values": [-2147483648, -1, 0, 2147483647], "write_settings": [], "#,
-    r#""written_values": [-10], "view": [11]}"#,
+    r#""written_values": [-10], "view": [11], "version": [12, 13]}"#,
 );
 
 /// [`SHORT`] with another text for one that comes once in it.
@@ -143,7 +144,7 @@ fn every_key_may_be_missing() {
 #[test]
 fn every_key_may_come_twice() {
     for key in KEYS {
-        let text = altered("[11]}", &format!("[11], \"{key}\": []}}"));
+        let text = altered("13]}", &format!("13], \"{key}\": []}}"));
         assert_eq!(error(&text), Error::Twice(key), "{text}");
     }
     let error = Error::Twice("view");
@@ -157,6 +158,7 @@ fn a_key_may_be_unknown() {
         ("Held", "\"Held\""),
         ("held ", "\"held \""),
         ("lengths", "\"lengths\""),
+        ("versions", "\"versions\""),
         ("\\u0068eld", "\"\\\\u0068eld\""),
         ("é", "\"é\""),
     ] {
@@ -164,8 +166,8 @@ fn a_key_may_be_unknown() {
         assert_eq!(error(&text), Error::Unknown(key.to_string()), "{text}");
         let message = format!("the key {shown} is unknown");
         assert_eq!(error(&text).to_string(), message);
-        // Also where all fourteen are there, and whatever its value is.
-        let text = altered("[11]}", &format!("[11], \"{key}\": true}}"));
+        // Also where all fifteen are there, and whatever its value is.
+        let text = altered("13]}", &format!("13], \"{key}\": true}}"));
         assert_eq!(error(&text), Error::Unknown(key.to_string()), "{text}");
     }
     let text = [b"{\"\xFF\": []}".as_slice()].concat();
@@ -185,6 +187,7 @@ fn a_number_may_not_fit() {
         ("16 bits", "write_count", &["-1", "65536"]),
         ("16 bits", "read_settings", &["-1", "65536"]),
         ("16 bits", "write_settings", &["-1", "65536"]),
+        ("16 bits", "version", &["-1", "65536"]),
         ("64 bits", "timestamps", &["-1", "18446744073709551616"]),
         (
             "signed 32 bits",

@@ -20,8 +20,25 @@ fn every_kind_of_line_is_read() {
         Call::TakeIn {
             timestamp: 20,
             program: vec![13, 0, 0, 0],
+            version: 0,
         },
     );
+    for (line, version) in [
+        ("take_in 20 0d000000 0", 0),
+        ("take_in 20 0d000000 1", 1),
+        ("take_in 20 0d000000 2", 2),
+        ("take_in 20 0d000000 00000000000000000001", 1),
+        ("take_in 20 0d000000 65535", u16::MAX),
+    ] {
+        assert_read(
+            line,
+            Call::TakeIn {
+                timestamp: 20,
+                program: vec![13, 0, 0, 0],
+                version,
+            },
+        );
+    }
     assert_read("withdraw 20", Call::Withdraw { timestamp: 20 });
     assert_read("turn", Call::Turn);
     assert_read("drain", Call::Drain { totals: None });
@@ -140,11 +157,20 @@ fn bytes_are_pairs_of_digits_of_either_case() {
             vec![0xAB, 0xCD, 0xEF, 1, 0x23, 0x45, 0x67, 0x89],
         ),
     ] {
-        let timestamp = 1;
-        assert_read(
-            &format!("take_in 1 {word}"),
-            Call::TakeIn { timestamp, program },
-        );
+        for (line, version) in [
+            (format!("take_in 1 {word}"), 0),
+            (format!("take_in 1 {word} 1"), 1),
+        ] {
+            let (timestamp, program) = (1, program.clone());
+            assert_read(
+                &line,
+                Call::TakeIn {
+                    timestamp,
+                    program,
+                    version,
+                },
+            );
+        }
     }
 }
 
@@ -192,7 +218,7 @@ fn every_argument_may_be_missing() {
 fn a_word_may_be_too_many() {
     for line in [
         "set_up x",
-        "take_in 20 - x",
+        "take_in 20 - 1 x",
         "withdraw 20 x",
         "turn x",
         "drain len5 x",
@@ -210,15 +236,19 @@ fn a_word_may_be_too_many() {
         let error = Err(Error::TooMany("x".to_string()));
         assert_eq!(read(line.as_bytes()), error, "{line:?}");
     }
+    // No word is passed over.
+    let line = "take_in 20 - 1 1";
+    assert_eq!(message(line), r#""1" is a word too many"#);
     assert_eq!(message("turn # why"), r##""#" is a word too many"##);
 }
 
-/// Panics unless every line with this word for a timestamp, a setting or a length has the error for
-/// it.
+/// Panics unless every line with this word for a timestamp, a version, a setting or a length has the
+/// error for it.
 #[track_caller]
 fn assert_numbers_refused(word: &str, error: impl Fn(&'static str) -> Error) {
     for (argument, line) in [
         ("TS", format!("take_in {word} -")),
+        ("VERSION", format!("take_in 20 - {word}")),
         ("TS", format!("withdraw {word}")),
         ("TS", format!("value_as_of {word} 34")),
         ("TS", format!("standing {word}")),
@@ -253,6 +283,12 @@ fn numbers_may_be_too_large() {
     for call in ["drain", "take_in_package 0000"] {
         let line = format!("{call} len{word}");
         assert_eq!(read(line.as_bytes()), Err(error("the L of lenL")));
+    }
+    // A version has 16 bits.
+    for word in ["65536", "065536", "4294967297"] {
+        let line = format!("take_in 20 - {word}");
+        let error = Error::TooLarge("VERSION", word.to_string());
+        assert_eq!(read(line.as_bytes()), Err(error), "{line:?}");
     }
     assert_eq!(
         message(&format!("current {word}")),

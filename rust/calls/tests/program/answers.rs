@@ -1,6 +1,6 @@
 //! Every form of answer, and every refusal.
 
-use crate::programs::{copy, package, set, take_in};
+use crate::programs::{copy, package, package_of_versions, set, take_in, take_in_version};
 use crate::{assert_answers, printed, write_file};
 
 /// A list with these values at these places, and else 0.
@@ -141,7 +141,8 @@ fn totals_of_many_consoles() {
 
 #[test]
 fn tables_after_a_change() {
-    let script = ["set_up", &take_in(10, copy(34, 50)), "drain"].join("\n");
+    let taken_in = take_in_version(10, copy(34, 50), 1);
+    let script = ["set_up", &taken_in, "drain"].join("\n");
     let lines = printed(&["--n", "2"], &format!("{script}\ntables\n"));
     let program = [11, 0, 0, 0, 34, 0, 0, 0, 13, 0, 0, 0, 50];
     let program: Vec<(usize, i32)> = program.into_iter().enumerate().collect();
@@ -160,6 +161,7 @@ fn tables_after_a_change() {
         ("write_settings", list(64, &[(0, 50)])),
         ("written_values", list(64, &[(0, 1)])),
         ("view", settings(&[])),
+        ("version", list(2, &[(0, 1)])),
     ];
     let expected = expected.map(|(key, list)| format!("\"{key}\": {list}"));
     let drained = r#"done by console {"40": 1}"#;
@@ -213,8 +215,17 @@ fn every_refusal() {
             ("value_as_of 5 1024", "refused 5"),
             ("take_in 5 00", "refused 6"),
             (&take_in(5, "00".repeat(264)), "refused 6"),
+            ("take_in 5 00 2", "refused 6"),
+            ("take_in 5 - 2", "refused 13"),
+            ("take_in 5 - 65535", "refused 13"),
+            ("take_in 0 - 2", "refused 4"),
+            (&take_in_version(5, wrong, 2), "refused 13"),
             (&take_in(5, wrong), "refused 7"),
+            (&take_in_version(5, wrong, 1), "refused 7"),
             ("take_in 5 -", "done"),
+            ("take_in 5 - 1", "refused 8"),
+            ("take_in 5 - 2", "refused 13"),
+            ("take_in 5 - 0", "held"),
             (&take_in(5, set(34, 7)), "refused 8"),
             ("take_in 6 -", "done"),
             ("take_in 7 -", "refused 9"),
@@ -242,6 +253,43 @@ fn every_refusal() {
             ("turn", "refused 2"),
             ("drain", "refused 2"),
             ("drain len1023", "refused 1"),
+        ],
+    );
+}
+
+/// The same bytes, of version 0 and of version 1, taken in one by one and in packages.
+#[test]
+fn changes_of_both_versions() {
+    let program = set(34, 7) + &copy(34, 50) + &set(34, 8);
+    let entry = |timestamp, version| (timestamp, 0, version, program.as_str());
+    let taking = |entries: &[_]| format!("take_in_package {}", package_of_versions(entries));
+    let written = package_of_versions(&[entry(10, 1), entry(20, 0), entry(30, 1)]);
+    assert_answers(
+        &["--n", "3"],
+        &[
+            ("set_up", "done"),
+            (&take_in(20, &program), "done"),
+            (&take_in_version(20, &program, 1), "refused 8"),
+            (&take_in_version(20, &program, 2), "refused 13"),
+            (&take_in_version(20, &program, 0), "held"),
+            (&take_in_version(10, &program, 1), "done"),
+            (&take_in(10, &program), "refused 8"),
+            ("turn", "ran 10"),
+            ("turn", "faulted 20 2"),
+            ("current 34", "value 8"),
+            ("current 50", "value 7"),
+            (
+                &taking(&[entry(30, 1), entry(10, 1), entry(10, 0), entry(40, 1)]),
+                "done answers [0, 255, 8, 9]",
+            ),
+            (&taking(&[entry(10, 1), entry(40, 2)]), "refused 3"),
+            (&taking(&[entry(10, 1), (10, 1, 1, "")]), "refused 3"),
+            ("drain", r#"done by console {"120": 1}"#),
+            (
+                "plain_run",
+                &format!("done {}", settings(&[(34, 8), (50, 7)])),
+            ),
+            ("package_out 182", &format!("length 182 {written}")),
         ],
     );
 }

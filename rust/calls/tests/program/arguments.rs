@@ -43,6 +43,7 @@ fn another_capacity_is_refused_by_every_call() {
     let calls = [
         ("set_up", "refused 1"),
         ("take_in 10 -", "refused 1"),
+        ("take_in 10 - 2", "refused 1"),
         ("withdraw 10", "refused 1"),
         ("turn", "refused 1"),
         ("drain", "refused 1"),
@@ -103,7 +104,7 @@ fn help() {
         assert!(help.starts_with("usage: calls [--n N] [FILE]\n\n"));
         for name in [
             "set_up",
-            "take_in TS HEX",
+            "take_in TS HEX [VERSION]",
             "withdraw TS",
             "turn",
             "drain [lenL]",

@@ -1,8 +1,10 @@
 //! The cases of document 01, "Cases to know", with the start values (R-1), the faults shown (R-2) and
 //! the totals for each console (R-5) of document 02, and the example scripts, of which one fills a
-//! cabinet from its neighbour (R-3).
+//! cabinet from its neighbour (R-3) and one has programs of both versions (R-6).
 
-use crate::programs::{add, constant, copy, instruction, package, set, take, take_in, write};
+use crate::programs::{
+    add, constant, copy, instruction, package, package_of_versions, read, set, take, take_in, write,
+};
 use crate::{assert_answers, printed};
 use std::fs;
 
@@ -232,6 +234,17 @@ fn assert_example(name: &str, expected: &str) {
     assert_eq!(printed(&[&example(name)], ""), expected);
 }
 
+/// A file of `examples/` takes in this package and no other.
+#[track_caller]
+fn assert_taken(name: &str, package: &str) {
+    let script = fs::read_to_string(example(name)).expect("the example is there");
+    let taken: Vec<&str> = script
+        .lines()
+        .filter_map(|line| line.strip_prefix("take_in_package "))
+        .collect();
+    assert_eq!(taken, [package]);
+}
+
 #[test]
 fn example_of_power() {
     let expected = r#"done
@@ -331,10 +344,55 @@ length 98 {package}
 "#
     );
     assert_example("neighbour.calls", &expected);
-    let script = fs::read_to_string(example("neighbour.calls")).expect("the example is there");
-    let taken: Vec<&str> = script
-        .lines()
-        .filter_map(|line| line.strip_prefix("take_in_package "))
-        .collect();
-    assert_eq!(taken, [package]);
+    assert_taken("neighbour.calls", &package);
+}
+
+/// 30 takes what 20 took, by the rules of version 1.
+#[test]
+fn example_of_versions() {
+    let program = [
+        read(0, 36),
+        constant(1, 300),
+        instruction(4, 0, 0, 1, 0),
+        write(0, 36),
+        read(2, 36),
+        instruction(15, 0, 2, 0, 1),
+        instruction(0, 0, 0, 0, 0),
+        constant(3, 1),
+        write(3, 37),
+        write(4, 36),
+    ];
+    let program = program.concat();
+    let package = package_of_versions(&[
+        (10, 0, 0, &set(36, 200)),
+        (15, 0, 0, &set(36, 400)),
+        (20, 0, 0, &program),
+        (30, 0, 1, &program),
+        (20, 1, 0, ""),
+    ]);
+    let expected = format!(
+        r#"done
+done
+done
+ran 10
+faulted 20 4
+value 200
+refused 8
+refused 13
+done
+done answers [0]
+cleared 20
+ran 30
+value 0
+value 1
+done
+done by console {{"60": 1, "120": 1}}
+value 100
+value 0
+length 254 {package}
+"#
+    );
+    assert_example("versions.calls", &expected);
+    let of_30 = package_of_versions(&[(30, 0, 1, &program)]);
+    assert_taken("versions.calls", &of_30);
 }

@@ -1,7 +1,7 @@
 //! Tables printed and loaded.
 
 use crate::outside_tables;
-use crate::programs::{copy, package, set, take_in};
+use crate::programs::{copy, package_of_versions, set, take_in, take_in_version};
 use crate::{assert_answers, printed, write_file, FOLDER};
 use calls::answer::Runner;
 use calls::script::Call;
@@ -23,7 +23,7 @@ const CALLS: [&str; 11] = [
 ];
 
 /// Every change to tables that gives one of them another length.
-const OTHER_LENGTHS: [fn(&mut Tables, Change); 14] = [
+const OTHER_LENGTHS: [fn(&mut Tables, Change); 15] = [
     |tables, change| change.make(&mut tables.held),
     |tables, change| change.make(&mut tables.timestamps),
     |tables, change| change.make(&mut tables.order),
@@ -38,6 +38,7 @@ const OTHER_LENGTHS: [fn(&mut Tables, Change); 14] = [
     |tables, change| change.make(&mut tables.targets),
     |tables, change| change.make(&mut tables.written),
     |tables, change| change.make(&mut tables.view),
+    |tables, change| change.make(&mut tables.versions),
 ];
 
 #[derive(Clone, Copy)]
@@ -88,7 +89,7 @@ fn a_table_of_another_length_is_refused_by_every_call() {
 
 #[test]
 fn tables_not_in_form_are_refused_by_every_call_but_set_up() {
-    let breaches: [fn(&mut Tables); 14] = [
+    let breaches: [fn(&mut Tables); 16] = [
         |tables| tables.held[0] = 1,
         |tables| tables.held[0] = u16::MAX,
         |tables| tables.timestamps[2] = u64::MAX,
@@ -103,6 +104,9 @@ fn tables_not_in_form_are_refused_by_every_call_but_set_up() {
         |tables| tables.seen[95] = -1,
         |tables| tables.targets[95] = 1,
         |tables| tables.written[0] = i32::MIN,
+        |tables| tables.versions[2] = 1,
+        // Of a change with timestamp 10 and no instructions.
+        |tables| (tables.held[0], tables.timestamps[0], tables.versions[0]) = (1, 10, 2),
     ];
     let [set_up, others @ ..] = CALLS;
     for breach in breaches {
@@ -165,12 +169,14 @@ fn tables_for_another_capacity_may_be_loaded() {
 /// What the tables hold is what a run goes on from.
 #[test]
 fn printed_tables_are_loaded_as_they_were() {
-    let package = package(&[(30, 0, &copy(34, 50)), (40, 0, &set(34, i32::MIN))]);
+    let (reader, twice) = (copy(34, 50), set(34, 5) + &set(34, i32::MIN));
+    let package = package_of_versions(&[(30, 0, 0, &reader), (40, 0, 1, &twice)]);
     let script = [
         "set_up",
         &format!("take_in_package {package}"),
         "drain",
-        &take_in(u64::MAX - 1, copy(34, 51)),
+        &take_in_version(u64::MAX - 1, copy(34, 51) + &copy(51, 52), 1),
+        &take_in(50, copy(34, 51) + &copy(51, 52)),
         &take_in(10, set(34, 7)),
         "turn",
         "withdraw 40",
@@ -182,13 +188,14 @@ fn printed_tables_are_loaded_as_they_were() {
         "turn",
         "turn",
         "turn",
+        "turn",
         "plain_run",
         "standing 40",
-        "package_out 200",
+        "package_out 300",
         "tables",
     ];
     let at_once = printed(
-        &["--n", "5"],
+        &["--n", "6"],
         &[&script[..], &["tables"], &rest].concat().join("\n"),
     );
     let mut lines = at_once.lines().skip(script.len());
@@ -197,13 +204,14 @@ fn printed_tables_are_loaded_as_they_were() {
     let then = [&["load left.json", "tables"], &rest[..]]
         .concat()
         .join("\n");
-    let then = printed(&["--n", "5"], &then);
+    let then = printed(&["--n", "6"], &then);
     let expected: Vec<&str> = ["done", tables].into_iter().chain(lines).collect();
     assert_eq!(then.lines().collect::<Vec<_>>(), expected);
     for answer in [
         "ran 20",
         "stood 30",
         "cleared 40",
+        "faulted 50 2",
         "ran 18446744073709551614",
         "idle",
         "standing 1 1",
@@ -243,15 +251,18 @@ fn where_the_file_is() {
 fn nothing_is_loaded_in_part() {
     let mut runner = Runner::new(2);
     let mut answer = |call: &Call| runner.answer(call).map_err(|error| error.to_string());
-    let (timestamp, program) = (10, vec![]);
-    let done = Ok("done".to_string());
-    assert_eq!(answer(&Call::TakeIn { timestamp, program }), done);
+    let call = Call::TakeIn {
+        timestamp: 10,
+        program: vec![],
+        version: 1,
+    };
+    assert_eq!(answer(&call), Ok("done".to_string()));
     let before = answer(&Call::Tables);
     let whole = outside_tables::line(&Tables::new(2));
     for contents in [
         whole.replace("\"view\"", "\"views\""),
         whole.replace("0]}", "0]"),
-        whole.replace("0]}", "2147483648]}"),
+        whole.replace("0]}", "65536]}"),
     ] {
         write_file("part.json", contents);
         let file = format!("{FOLDER}/part.json");

@@ -4,7 +4,7 @@
 use outside::tables::Tables;
 
 /// The keys, each with its list.
-fn lists(tables: &Tables) -> [(&'static str, Vec<String>); 14] {
+fn lists(tables: &Tables) -> [(&'static str, Vec<String>); 15] {
     fn list<T: ToString>(table: &[T]) -> Vec<String> {
         table.iter().map(T::to_string).collect()
     }
@@ -23,6 +23,7 @@ fn lists(tables: &Tables) -> [(&'static str, Vec<String>); 14] {
         ("write_settings", list(&tables.targets)),
         ("written_values", list(&tables.written)),
         ("view", list(&tables.view)),
+        ("version", list(&tables.versions)),
     ]
 }
 

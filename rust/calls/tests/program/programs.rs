@@ -50,20 +50,31 @@ pub fn take(setting: i32, value: i32, alarm: i32) -> String {
     add(setting, -value) + &skip + &stop + &set(alarm, 1)
 }
 
-/// A package whose entries have these timestamps, kinds and bodies.
+/// A package whose entries have these timestamps, kinds and bodies, and version 0.
 pub fn package(entries: &[(u64, u8, &str)]) -> String {
+    let of_version_0 = |&(timestamp, kind, body)| (timestamp, kind, 0, body);
+    package_of_versions(&entries.iter().map(of_version_0).collect::<Vec<_>>())
+}
+
+/// A package whose entries have these timestamps, kinds, versions and bodies.
+pub fn package_of_versions(entries: &[(u64, u8, u8, &str)]) -> String {
     let mut package = hex(&(entries.len() as u16).to_le_bytes());
-    for (timestamp, kind, body) in entries {
+    for (timestamp, kind, version, body) in entries {
         package += &hex(&timestamp.to_le_bytes());
-        package += &hex(&[*kind, (body.len() / 16) as u8, 0, 0]);
+        package += &hex(&[*kind, (body.len() / 16) as u8, *version, 0]);
     }
-    for (_, _, body) in entries {
+    for (_, _, _, body) in entries {
         package += body;
     }
     package
 }
 
-/// The line that takes in a change.
+/// The line that takes in a change of version 0.
 pub fn take_in(timestamp: u64, program: impl AsRef<str>) -> String {
     format!("take_in {timestamp} {}", program.as_ref())
+}
+
+/// The line that takes in a change of this version.
+pub fn take_in_version(timestamp: u64, program: impl AsRef<str>, version: u16) -> String {
+    format!("{} {version}", take_in(timestamp, program))
 }

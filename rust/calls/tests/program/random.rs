@@ -70,12 +70,21 @@ impl Script {
     fn make(&mut self, call: Call) {
         let (n, tables) = (self.n, &mut self.tables);
         match call {
-            Call::TakeIn { timestamp, program } => {
-                let answer = take_in(n, tables, timestamp, &program).map(|taken| match taken {
+            Call::TakeIn {
+                timestamp,
+                version,
+                program,
+            } => {
+                let answer = take_in(n, tables, timestamp, version, &program);
+                let answer = answer.map(|taken| match taken {
                     Taken::Done => "done".to_string(),
                     Taken::AlreadyHeld => "held".to_string(),
                 });
-                self.push(format!("take_in {timestamp} {}", hex(&program)), answer);
+                let mut line = format!("take_in {timestamp} {}", hex(&program));
+                if version != 0 {
+                    line += &format!(" {version}");
+                }
+                self.push(line, answer);
             }
             Call::Withdraw { timestamp } => {
                 let answer = withdraw(n, tables, timestamp).map(|()| "done".to_string());
@@ -279,6 +288,7 @@ fn lists_of_calls_have_the_outside_answers_and_tables() {
             "take_in held",
             "take_in refused 4",
             "take_in refused 6",
+            "take_in refused 13",
             "take_in refused 7",
             "take_in refused 8",
             "take_in refused 9",
@@ -333,7 +343,7 @@ fn alter<T: Clone>(random: &mut Random, table: &mut Vec<T>, any: impl Fn(u64) ->
 }
 
 fn alter_some_table(random: &mut Random, tables: &mut Tables) {
-    match random.below(14) {
+    match random.below(15) {
         0 => alter(random, &mut tables.held, |bits| bits as u16),
         1 => alter(random, &mut tables.timestamps, |bits| bits),
         2 => alter(random, &mut tables.order, |bits| bits as u16),
@@ -347,7 +357,8 @@ fn alter_some_table(random: &mut Random, tables: &mut Tables) {
         10 => alter(random, &mut tables.seen, |bits| bits as i32),
         11 => alter(random, &mut tables.targets, |bits| bits as u16),
         12 => alter(random, &mut tables.written, |bits| bits as i32),
-        _ => alter(random, &mut tables.view, |bits| bits as i32),
+        13 => alter(random, &mut tables.view, |bits| bits as i32),
+        _ => alter(random, &mut tables.versions, |bits| bits as u16),
     }
 }
 

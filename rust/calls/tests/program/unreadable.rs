@@ -35,6 +35,7 @@ fn lines_that_are_no_calls() {
     assert_unreadable("package_out", "L is missing");
     assert_unreadable("load", "FILE is missing");
     assert_unreadable("turn 10", r#""10" is a word too many"#);
+    assert_unreadable("take_in 10 - 1 1", r#""1" is a word too many"#);
     assert_unreadable("turn # a comment", r##""#" is a word too many"##);
     assert_unreadable("load my tables", r#""tables" is a word too many"#);
     assert_unreadable(
@@ -49,6 +50,11 @@ fn lines_that_are_no_calls() {
         "current 18446744073709551616",
         r#"S is too large: "18446744073709551616""#,
     );
+    assert_unreadable(
+        "take_in 10 - -1",
+        r#"VERSION is not a number in decimal digits: "-1""#,
+    );
+    assert_unreadable("take_in 10 - 65536", r#"VERSION is too large: "65536""#);
     assert_unreadable("take_in 10 0d0", "HEX has an odd number of digits");
     assert_unreadable(
         "take_in_package 0x",
@@ -178,6 +184,14 @@ fn files_that_hold_no_tables() {
         (
             altered("\"programs\": [0", "\"programs\": [256"),
             r#"entry 0 of "programs" does not fit 8 bits: "256""#,
+        ),
+        (
+            altered(", \"version\": [0]", ""),
+            r#"the key "version" is missing"#,
+        ),
+        (
+            altered("\"version\": [0]", "\"version\": [65536]"),
+            r#"entry 0 of "version" does not fit 16 bits: "65536""#,
         ),
         (
             altered("\"view\": [0", "\"view\": [-2147483649"),

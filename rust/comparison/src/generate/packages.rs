@@ -1,9 +1,9 @@
 //! Random packages: of the layout, and with a single breach of it; room for those that are written.
 
-use super::{damage, Random, Style};
+use super::{damage, other_version, version, Random, Style};
 use crate::packages_out::Size;
 use outside::package::{lay_out, Entry, ENTRY_BYTES, MAX_BYTES, MAX_ENTRIES};
-use outside::program::{INSTRUCTION_BYTES, MAX_INSTRUCTIONS};
+use outside::program::{Version, INSTRUCTION_BYTES, MAX_INSTRUCTIONS};
 use outside::tables::{Tables, INFINITY};
 
 /// Entries of a package that keeps the layout, for tables that hold these timestamps: many entries
@@ -28,15 +28,27 @@ pub fn entries(random: &mut Random, held: &[u64]) -> Vec<Entry> {
         };
         entries.push(match random.below(12) {
             0..3 => Entry::Withdrawal { timestamp },
-            3 if !entries.is_empty() => entries[random.below(entries.len())].clone(),
+            3 if !entries.is_empty() => {
+                let mut again = entries[random.below(entries.len())].clone();
+                // Some come again with the other version.
+                if let (Entry::Change { version, .. }, 0) = (&mut again, random.below(3)) {
+                    *version = other_version(*version);
+                }
+                again
+            }
             _ => {
                 let length = random.below(longest + 1);
+                let version = version(random);
                 let mut program = super::program(random, &Style::FEW_SETTINGS, length);
                 if random.below(6) == 0 {
                     damage(random, &mut program);
                     program.resize(INSTRUCTION_BYTES * length, 0);
                 }
-                Entry::Change { timestamp, program }
+                Entry::Change {
+                    timestamp,
+                    version,
+                    program,
+                }
             }
         });
     }
@@ -81,10 +93,12 @@ pub enum Breach {
     OtherCount,
     /// A withdrawal has instructions.
     Withdrawal,
-    /// One of the two bytes is not 0.
-    FirstZero,
-    /// The other is not.
-    SecondZero,
+    /// A version is above 1.
+    VersionAbove1,
+    /// A withdrawal has version 1.
+    WithdrawalOfVersion1,
+    /// The last byte of an entry is not 0.
+    LastByte,
     /// All is right but the length, which is above 65,535.
     Above65535,
     /// All is right but the count, which is above 512.
@@ -93,7 +107,7 @@ pub enum Breach {
 
 impl Breach {
     /// All breaches.
-    pub const ALL: [Self; 12] = [
+    pub const ALL: [Self; 13] = [
         Self::Short,
         Self::Long,
         Self::CountTooHigh,
@@ -102,8 +116,9 @@ impl Breach {
         Self::Above32,
         Self::OtherCount,
         Self::Withdrawal,
-        Self::FirstZero,
-        Self::SecondZero,
+        Self::VersionAbove1,
+        Self::WithdrawalOfVersion1,
+        Self::LastByte,
         Self::Above65535,
         Self::Above512,
     ];
@@ -140,12 +155,27 @@ impl Breach {
             Self::Withdrawal => {
                 replace_body(package, entry?, 1, 1 + random.below(MAX_INSTRUCTIONS));
             }
-            Self::FirstZero => package[entry? + 10] = 1 << random.below(8),
-            Self::SecondZero => package[entry? + 11] = 1 << random.below(8),
+            Self::VersionAbove1 => {
+                package[entry? + 10] = match random.below(2) {
+                    0 => random.pick(&[2, 3, 128, 255]),
+                    _ => 2 + random.below(254) as u8,
+                };
+            }
+            Self::WithdrawalOfVersion1 => {
+                let entries = (0..count).map(|index| 2 + ENTRY_BYTES * index);
+                let withdrawals = entries.filter(|entry| package[entry + 8] == 1);
+                let withdrawals: Vec<usize> = withdrawals.collect();
+                if withdrawals.is_empty() {
+                    return None;
+                }
+                package[random.pick(&withdrawals) + 10] = 1;
+            }
+            Self::LastByte => package[entry? + 11] = 1 << random.below(8),
             Self::Above65535 => {
                 let program = vec![0; INSTRUCTION_BYTES * MAX_INSTRUCTIONS];
                 let change = |timestamp| Entry::Change {
                     timestamp,
+                    version: Version::Zero,
                     program: program.clone(),
                 };
                 let in_entry = ENTRY_BYTES + program.len();
@@ -165,11 +195,13 @@ impl Breach {
     }
 }
 
-/// Gives an entry this kind and so many instructions, and the package the length that fits.
+/// Gives an entry this kind, so many instructions and version 0, and the package the length that
+/// fits.
 fn replace_body(package: &mut Vec<u8>, entry: usize, kind: u8, instructions: usize) {
     let old = usize::from(package[entry + 9]);
     let others = package.len() - INSTRUCTION_BYTES * old;
     package.resize(others + INSTRUCTION_BYTES * instructions, 0);
     package[entry + 8] = kind;
     package[entry + 9] = instructions as u8;
+    package[entry + 10] = 0;
 }

@@ -1,11 +1,14 @@
 //! Random lists of calls, and tables, whose changes read and write the same few settings.
 
 use super::packages::{self, Breach};
-use super::{damage, tables, totals, Random, Settings, EXTREMES, REFUSED_TOTALS};
+use super::{
+    damage, no_version, other_version, tables, totals, version, Random, Settings, EXTREMES,
+    REFUSED_TOTALS,
+};
 use outside::checker::TOTALS;
 use outside::package::{lay_out, Entry, ANSWERS};
 use outside::program::{
-    op, Access, Instruction, INSTRUCTION_BYTES, MAX_INSTRUCTIONS, REGISTERS, SETTINGS,
+    op, Access, Instruction, Version, INSTRUCTION_BYTES, MAX_INSTRUCTIONS, REGISTERS, SETTINGS,
 };
 use outside::start::settings_at_start;
 use outside::tables::{Status, Tables, INFINITY, LIST_ENTRIES, PROGRAM_BYTES};
@@ -16,8 +19,10 @@ use std::iter;
 #[derive(Clone, Debug)]
 #[allow(missing_docs)]
 pub enum Call {
+    /// The version may be any number.
     TakeIn {
         timestamp: u64,
+        version: u16,
         program: Vec<u8>,
     },
     Withdraw {
@@ -35,11 +40,40 @@ pub enum Call {
     },
 }
 
+/// A change to take in.
+#[derive(Clone, Debug)]
+#[allow(missing_docs)]
+pub struct Change {
+    pub timestamp: u64,
+    pub version: Version,
+    pub program: Vec<u8>,
+}
+
+impl Change {
+    /// The call that takes it in.
+    pub fn call(self) -> Call {
+        Call::TakeIn {
+            timestamp: self.timestamp,
+            version: self.version.number(),
+            program: self.program,
+        }
+    }
+
+    /// The entry of a package that does.
+    pub fn entry(self) -> Entry {
+        Entry::Change {
+            timestamp: self.timestamp,
+            version: self.version,
+            program: self.program,
+        }
+    }
+}
+
 /// What the calls of a list are made of: few settings, few timestamps, and what was sent before.
 pub struct Source {
     settings: Settings,
     timestamps: Vec<u64>,
-    sent: Vec<(u64, Vec<u8>)>,
+    sent: Vec<Change>,
 }
 
 /// The most blocks of a program that calls bring.
@@ -120,8 +154,8 @@ impl Source {
         match (random.below(16), self.sent.last()) {
             (0, _) => random.pick(&[0, INFINITY]),
             (1 | 2, _) | (_, None) => random.pick(&self.timestamps),
-            (3..8, Some((timestamp, _))) => *timestamp,
-            _ => self.sent[random.below(self.sent.len())].0,
+            (3..8, Some(last)) => last.timestamp,
+            _ => self.sent[random.below(self.sent.len())].timestamp,
         }
     }
 
@@ -135,9 +169,9 @@ impl Source {
         let marked = held
             .into_iter()
             .any(|place| tables.status(place) == Status::Invalid);
-        if let (true, 0, Some((timestamp, _))) = (marked, random.below(8), self.sent.last()) {
+        if let (true, 0, Some(last)) = (marked, random.below(8), self.sent.last()) {
             // Where its writes have marked a change, that change will stand.
-            let timestamp = *timestamp;
+            let timestamp = last.timestamp;
             return Call::Withdraw { timestamp };
         }
         // Most often a turn where one is due, so that changes arrive and go between single turns.
@@ -147,8 +181,11 @@ impl Source {
         };
         match random.below(kinds) {
             0..6 => {
-                let (timestamp, program) = self.change(random);
-                Call::TakeIn { timestamp, program }
+                let mut call = self.change(random).call();
+                if let (Call::TakeIn { version, .. }, 0) = (&mut call, random.below(24)) {
+                    *version = no_version(random);
+                }
+                call
             }
             6 => self.package(random),
             7 | 8 => Call::Withdraw {
@@ -170,28 +207,40 @@ impl Source {
     }
 
     /// A change to take in: most often one that was not sent.
-    fn change(&mut self, random: &mut Random) -> (u64, Vec<u8>) {
-        let mut program = self.program(random);
+    fn change(&mut self, random: &mut Random) -> Change {
+        let timestamp = self.timestamp(random);
+        let mut any = self.stamped(random, timestamp);
         match random.below(16) {
             0 | 1 if !self.sent.is_empty() => {
-                return self.sent[random.below(self.sent.len())].clone();
+                let mut again = self.sent[random.below(self.sent.len())].clone();
+                if random.below(4) == 0 {
+                    again.version = other_version(again.version);
+                }
+                return again;
             }
-            2 => return (self.timestamp(random), program),
+            2 => return any,
             3 => {
-                damage(random, &mut program);
-                return (self.timestamp(random), program);
+                damage(random, &mut any.program);
+                return any;
             }
             _ => {}
         }
-        match self.new_change(random) {
-            Some(change) => change,
-            None => (self.timestamp(random), program),
+        self.new_change(random).unwrap_or(any)
+    }
+
+    /// A change with this timestamp.
+    pub fn stamped(&self, random: &mut Random, timestamp: u64) -> Change {
+        let version = version(random);
+        Change {
+            timestamp,
+            version,
+            program: self.program(random, version),
         }
     }
 
     /// A change that was not sent, or none where all timestamps were.
-    pub fn new_change(&mut self, random: &mut Random) -> Option<(u64, Vec<u8>)> {
-        let sent: HashSet<u64> = self.sent.iter().map(|&(timestamp, _)| timestamp).collect();
+    pub fn new_change(&mut self, random: &mut Random) -> Option<Change> {
+        let sent: HashSet<u64> = self.sent.iter().map(|change| change.timestamp).collect();
         let unsent = self.timestamps.iter().copied();
         let unsent: Vec<u64> = unsent
             .filter(|timestamp| !sent.contains(timestamp))
@@ -199,7 +248,8 @@ impl Source {
         if unsent.is_empty() {
             return None;
         }
-        let change = (random.pick(&unsent), self.program(random));
+        let timestamp = random.pick(&unsent);
+        let change = self.stamped(random, timestamp);
         self.sent.push(change.clone());
         Some(change)
     }
@@ -213,11 +263,12 @@ impl Source {
                     timestamp: self.timestamp(random),
                 },
                 _ => {
-                    let (timestamp, mut program) = self.change(random);
+                    let mut change = self.change(random);
                     // A package has whole instructions, and at most 32 for a change.
-                    let whole = program.len() / INSTRUCTION_BYTES;
-                    program.truncate(INSTRUCTION_BYTES * whole.min(MAX_INSTRUCTIONS));
-                    Entry::Change { timestamp, program }
+                    let whole = change.program.len() / INSTRUCTION_BYTES;
+                    let instructions = whole.min(MAX_INSTRUCTIONS);
+                    change.program.truncate(INSTRUCTION_BYTES * instructions);
+                    change.entry()
                 }
             });
         }
@@ -236,20 +287,23 @@ impl Source {
         }
     }
 
-    /// A well formed program.
-    pub fn program(&self, random: &mut Random) -> Vec<u8> {
-        self.program_of(random, MOST_BLOCKS)
+    /// A well formed program for this version.
+    pub fn program(&self, random: &mut Random, version: Version) -> Vec<u8> {
+        self.program_of(random, version, MOST_BLOCKS)
     }
 
     /// A well formed program of at most so many blocks.
-    fn program_of(&self, random: &mut Random, most: usize) -> Vec<u8> {
+    fn program_of(&self, random: &mut Random, version: Version, most: usize) -> Vec<u8> {
         let mut program: Vec<Instruction> = Vec::new();
         let blocks = match random.below(16) {
             0 => 0,
             _ => 1 + random.below(most),
         };
         for _ in 0..blocks {
-            let block = self.block(random);
+            let block = match version {
+                Version::One if random.below(3) == 0 => self.own_write(random),
+                _ => self.block(random),
+            };
             // With what may come before the block.
             if program.len() + 2 + block.len() > MAX_INSTRUCTIONS {
                 break;
@@ -339,6 +393,66 @@ impl Source {
         }
     }
 
+    /// A few instructions that come to a setting which they have written.
+    fn own_write(&self, random: &mut Random) -> Vec<Instruction> {
+        let (x, y) = (self.settings.pick(random), self.settings.pick(random));
+        let (a, b) = (register(random), register(random));
+        let constant = with_number(op::CONSTANT, b, self.value(random));
+        let named = with_number(op::CONSTANT, a, x);
+        let [read, write] = [op::READ, op::WRITE].map(|op| move |a, n| with_number(op, a, n));
+        let [read_named, write_named] = [op::READ_INDEXED, op::WRITE_INDEXED].map(|op| {
+            move |value, number| Instruction {
+                op,
+                a: value,
+                b: number,
+                ..Instruction::default()
+            }
+        });
+        match random.below(6) {
+            // A setting is written and read back, and a sum is written to it again, or to another.
+            0 => {
+                let sum = Instruction {
+                    op: op::ADD,
+                    a,
+                    b: a,
+                    c: b,
+                    n: 0,
+                };
+                let target = random.pick(&[x, y]);
+                vec![constant, write(b, x), read(a, x), sum, write(a, target)]
+            }
+            // It was read before.
+            1 => vec![read(a, x), constant, write(b, x), read(a, x), write(a, y)],
+            // By register.
+            2 => vec![
+                constant,
+                named,
+                write_named(b, a),
+                read_named(b, a),
+                write(b, y),
+            ],
+            3 => vec![
+                read(b, x),
+                named,
+                write(7, x),
+                read_named(b, a),
+                write_named(b, a),
+            ],
+            // It is written again after another one.
+            4 => vec![constant, write(b, x), write(a, y), named, write_named(a, a)],
+            // What another setting names is written, read back and written again.
+            _ => vec![
+                read(a, x),
+                constant,
+                write_named(b, a),
+                read_named(b, a),
+                write_named(7, a),
+                read_named(b, a),
+                write(b, y),
+            ],
+        }
+    }
+
     /// A value that a change writes: most often small, so that many are equal.
     fn value(&self, random: &mut Random) -> i32 {
         match random.below(12) {
@@ -365,7 +479,7 @@ impl Source {
                 _ => 1,
             };
             tables.withdrawn[place] = random.pick(&[0, 0, 0, 0, 1]);
-            let program = self.program_of(random, shape.blocks);
+            let program = self.program_of(random, tables.version(place), shape.blocks);
             put_program(&mut tables, place, &program);
             let longest = match tables.status[place] {
                 0 => 0,

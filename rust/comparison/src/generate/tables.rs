@@ -1,7 +1,7 @@
 //! Random tables: in form, and then with a single breach, with a slot changed or of another length.
 
-use super::{change_part, number, program_naming, Random, Settings, Style};
-use outside::program::{self, Access, INSTRUCTION_BYTES, MAX_INSTRUCTIONS, SETTINGS};
+use super::{change_part, number, program_naming, version, Random, Settings, Style};
+use outside::program::{self, Access, Version, INSTRUCTION_BYTES, MAX_INSTRUCTIONS, SETTINGS};
 use outside::tables::{Tables, INFINITY, LIST_ENTRIES, PROGRAM_BYTES};
 use std::collections::BTreeSet;
 
@@ -24,6 +24,13 @@ pub fn held_count(random: &mut Random, n: usize) -> usize {
 pub fn in_form(random: &mut Random, n: usize, held: usize) -> Tables {
     let statuses: &[u16] = random.pick::<&[u16]>(&[&[0, 1, 2], &[1], &[1, 1, 1, 2, 0]]);
     let flags: &[u16] = random.pick::<&[u16]>(&[&[0, 0, 0, 1], &[0], &[0, 1]]);
+    // Most often both.
+    let versions: &[Version] = random.pick(&[
+        &Version::ALL[..],
+        &Version::ALL,
+        &Version::ALL[..1],
+        &Version::ALL[1..],
+    ]);
     let settings = named(random);
     let mut tables = Tables::new(n);
     hold(random, &mut tables, held);
@@ -32,7 +39,8 @@ pub fn in_form(random: &mut Random, n: usize, held: usize) -> Tables {
         tables.withdrawn[place] = random.pick(flags);
         let longest = random.pick(&[4, 8, MAX_INSTRUCTIONS]);
         let length = count(random, longest);
-        put_program(random, &mut tables, place, &settings, length);
+        let version = random.pick(versions);
+        put_program(random, &mut tables, place, version, &settings, length);
         if tables.status[place] != 0 {
             for list in List::ALL {
                 let longest = random.pick(&[1, 4, LIST_ENTRIES]);
@@ -53,7 +61,15 @@ pub fn in_form_with_full_lists(random: &mut Random, n: usize, held: usize) -> Ta
     hold(random, &mut tables, held);
     for place in 0..held {
         tables.status[place] = 1;
-        put_program(random, &mut tables, place, &settings, MAX_INSTRUCTIONS);
+        let version = version(random);
+        put_program(
+            random,
+            &mut tables,
+            place,
+            version,
+            &settings,
+            MAX_INSTRUCTIONS,
+        );
         for list in List::ALL {
             list.put(random, &mut tables, place, &settings, LIST_ENTRIES);
         }
@@ -126,18 +142,24 @@ fn put_program(
     random: &mut Random,
     tables: &mut Tables,
     place: usize,
+    version: Version,
     settings: &Settings,
     length: usize,
 ) {
-    let style = random.pick(&[
+    let of_both = [
         &Style::MANY_SETTINGS,
         &Style::INDEXED,
         &Style::ACCESSES,
         &Style::DIRECT,
         &Style::DIRECT,
         &Style::DIRECT,
-    ]);
+    ];
+    let style = match version {
+        Version::One if random.below(2) == 0 => &Style::OWN_WRITES,
+        _ => random.pick(&of_both),
+    };
     let program = program_naming(random, style, settings, length);
+    tables.versions[place] = version.number();
     tables.lengths[place] = length as u16;
     tables.programs[PROGRAM_BYTES * place..][..program.len()].copy_from_slice(&program);
 }
@@ -219,6 +241,7 @@ pub enum Table {
     Targets,
     Written,
     View,
+    Versions,
 }
 
 /// The slots of a table.
@@ -231,7 +254,7 @@ enum Slots<'a> {
 
 impl Table {
     /// All tables.
-    pub const ALL: [Self; 14] = [
+    pub const ALL: [Self; 15] = [
         Self::Held,
         Self::Timestamps,
         Self::Order,
@@ -246,6 +269,7 @@ impl Table {
         Self::Targets,
         Self::Written,
         Self::View,
+        Self::Versions,
     ];
 
     fn slots(self, tables: &mut Tables) -> Slots<'_> {
@@ -264,6 +288,7 @@ impl Table {
             Self::Targets => Slots::Numbers(&mut tables.targets),
             Self::Written => Slots::Values(&mut tables.written),
             Self::View => Slots::Values(&mut tables.view),
+            Self::Versions => Slots::Numbers(&mut tables.versions),
         }
     }
 
@@ -362,6 +387,8 @@ pub enum Breach {
     StatusAbove2,
     /// A flag is above 1.
     FlagAbove1,
+    /// A version is above 1.
+    VersionAbove1,
     /// A program's length is above 32.
     LengthAbove32,
     /// Refusal 7 turns a program down.
@@ -386,7 +413,7 @@ pub enum Breach {
 
 impl Breach {
     /// All breaches.
-    pub const ALL: [Self; 38] = [
+    pub const ALL: [Self; 40] = [
         Self::HeldAboveCapacity,
         Self::HeldTooMany,
         Self::HeldTooFew,
@@ -398,6 +425,7 @@ impl Breach {
         Self::OrderRepeated,
         Self::StatusAbove2,
         Self::FlagAbove1,
+        Self::VersionAbove1,
         Self::LengthAbove32,
         Self::ProgramMalformed,
         Self::ProgramFiller,
@@ -425,6 +453,7 @@ impl Breach {
         Self::Unused(Table::Seen),
         Self::Unused(Table::Targets),
         Self::Unused(Table::Written),
+        Self::Unused(Table::Versions),
     ];
 
     /// Makes this breach in tables in form, or returns none where they have no place for it.
@@ -462,6 +491,7 @@ impl Breach {
             }
             Self::StatusAbove2 => tables.status[index_below(random, held)?] = above(random, 2),
             Self::FlagAbove1 => tables.withdrawn[index_below(random, held)?] = above(random, 1),
+            Self::VersionAbove1 => tables.versions[index_below(random, held)?] = above(random, 1),
             Self::LengthAbove32 => {
                 tables.lengths[index_below(random, held)?] = above(random, MAX_INSTRUCTIONS);
             }
@@ -594,7 +624,7 @@ fn malformed(random: &mut Random, program: &[u8]) -> Vec<u8> {
     loop {
         let mut changed = program.to_vec();
         change_part(random, &mut changed);
-        if program::check(&changed).is_err() {
+        if program::check(0, &changed).is_err() {
             return changed;
         }
     }

@@ -31,6 +31,7 @@ macro_rules! with_tables {
             (write_settings, targets)
             (written_values, written)
             (view, view)
+            (version, versions)
         }
     };
 }
@@ -74,9 +75,15 @@ pub fn set_up(n: usize, tables: &mut Tables) -> Result<(), u8> {
     calls::set_up(n, tables).map_err(Refusal::number)
 }
 
-/// Takes in a change.
-pub fn take_in(n: usize, tables: &mut Tables, timestamp: u64, program: &[u8]) -> Result<Taken, u8> {
-    match calls::take_in(n, tables, timestamp, program) {
+/// Takes in a change. The version may be any number.
+pub fn take_in(
+    n: usize,
+    tables: &mut Tables,
+    timestamp: u64,
+    version: u16,
+    program: &[u8],
+) -> Result<Taken, u8> {
+    match calls::take_in(n, tables, timestamp, version, program) {
         Ok(tolbezun::Taken::Done) => Ok(Taken::Done),
         Ok(tolbezun::Taken::AlreadyHeld) => Ok(Taken::AlreadyHeld),
         Err(refusal) => Err(refusal.number()),

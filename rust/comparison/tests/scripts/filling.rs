@@ -2,7 +2,7 @@
 //! same.
 
 use crate::{calls_in_list, Script, CAPACITIES};
-use comparison::generate::scripts::{Call, Source};
+use comparison::generate::scripts::{Call, Change, Source};
 use comparison::generate::{self, packages, Random};
 use comparison::packages_out::{self, PackageEvent, Size};
 use comparison::reached::Reached;
@@ -11,6 +11,7 @@ use outside::book;
 use outside::checker::TOTALS;
 use outside::filled;
 use outside::package::{entries, Entry, ANSWERS, DONE, MAX_BYTES};
+use outside::program::Version;
 use outside::tables::{Status, Tables, MAX_CAPACITY};
 
 /// How many cabinets others are filled from, and one in how many of them fills one of the highest
@@ -60,8 +61,8 @@ fn neighbour(random: &mut Random, n: usize, reached: &mut Reached<Event>) -> (Sc
     (script, package)
 }
 
-/// Panics unless packages were written so often from changes of every status, withdrawn or not,
-/// that did not arrive in order.
+/// Panics unless packages were written so often from changes of every status and of both versions,
+/// withdrawn or not, that did not arrive in order.
 #[track_caller]
 fn assert_neighbours(reached: &Reached<Event>) {
     let of_status = |status| {
@@ -74,8 +75,13 @@ fn assert_neighbours(reached: &Reached<Event>) {
     for &event in statuses.as_flattened() {
         reached.assert_at_least(NEIGHBOURS / 20, Event::Neighbour(event));
     }
-    let other_arrival = Event::Neighbour(PackageEvent::OtherArrival);
-    reached.assert_at_least(NEIGHBOURS / 2, other_arrival);
+    for version in Version::ALL {
+        let withdrawn = PackageEvent::WithdrawnVersion(version);
+        reached.assert_at_least(NEIGHBOURS / 20, Event::Neighbour(withdrawn));
+    }
+    for event in [PackageEvent::OtherArrival, PackageEvent::BothVersions] {
+        reached.assert_at_least(NEIGHBOURS / 2, Event::Neighbour(event));
+    }
 }
 
 /// A cabinet of this capacity, just set up, that takes in a package, and the answers of its
@@ -190,7 +196,18 @@ fn holding_the_same(random: &mut Random, n: usize, package: &[u8]) -> Script {
     while !entries.is_empty() {
         let entry = entries.swap_remove(random.below(entries.len()));
         let call = match entry.clone() {
-            Entry::Change { timestamp, program } => Call::TakeIn { timestamp, program },
+            Entry::Change {
+                timestamp,
+                version,
+                program,
+            } => {
+                let change = Change {
+                    timestamp,
+                    version,
+                    program,
+                };
+                change.call()
+            }
             Entry::Withdrawal { timestamp } => {
                 // It is refused where its change is not held yet, and comes again.
                 if script.both.tables().place_of(timestamp).is_none() {

@@ -4,8 +4,9 @@
 mod filling;
 
 use comparison::both::Both;
-use comparison::generate::scripts::{Call, Source};
+use comparison::generate::scripts::{Call, Change, Source};
 use comparison::generate::{self, packages, Random, REFUSED_TOTALS};
+use comparison::own_writes::OwnWrite;
 use comparison::packages_out::{self, PackageEvent};
 use comparison::proved::calls as proved;
 use comparison::reached::Reached;
@@ -17,8 +18,9 @@ use outside::checker::{Turn, Turned, TOTALS};
 use outside::filled;
 use outside::intake::Taken;
 use outside::package::{entries, lay_out, Entry, ALREADY_HELD, ANSWERS, DONE};
-use outside::program::{op, Fault, Instruction, MAX_INSTRUCTIONS, SETTINGS};
+use outside::program::{op, Access, Fault, Instruction, Version, MAX_INSTRUCTIONS, SETTINGS};
 use outside::tables::{Status, Tables, INFINITY, MAX_CAPACITY};
+use std::collections::BTreeSet;
 
 /// The highest capacity of the tables of most lists. Each capacity from 1 on has as many lists.
 const CAPACITIES: usize = 64;
@@ -36,18 +38,25 @@ const LOWEST_FAULT: usize = 1;
 /// What the lists of calls are to reach.
 #[derive(Clone, Copy, Debug, PartialEq, Eq, PartialOrd, Ord)]
 enum Event {
-    Taken,
+    Taken(Version),
     Held,
     HeldWithdrawn,
     HeldWhenFull,
     TakeInRefused(u8),
+    /// Refused 8 for the version alone, and where the change is withdrawn, and where the tables are
+    /// full.
+    OtherVersion,
+    OtherVersionWithdrawn,
+    OtherVersionWhenFull,
     Withdrawn(Status),
     WithdrawRefused(u8),
     Package,
     PackageRefused(u8),
-    /// The answers of a package's changes and withdrawals.
+    /// The answers of a package's changes and withdrawals, and changes of both versions that are
+    /// taken in by one package.
     ChangeAnswered(u8),
     WithdrawalAnswered(u8),
+    PackageOfBothVersions,
     Idle,
     Turn(TurnEvent),
     /// A drain's turns: none, and several.
@@ -125,11 +134,16 @@ impl Script {
     fn make(&mut self, call: Call, reached: &mut Reached<Event>) {
         let before = self.both.tables().clone();
         match call {
-            Call::TakeIn { timestamp, program } => {
-                let taken = self.both.take_in(timestamp, &program);
-                count_taken(reached, &before, timestamp, taken);
+            Call::TakeIn {
+                timestamp,
+                version,
+                program,
+            } => {
+                let taken = self.both.take_in(timestamp, version, &program);
+                count_taken(reached, &before, timestamp, version, &program, taken);
                 self.calls.push(book::Call::TakeIn {
                     timestamp,
+                    version,
                     program,
                     answer: number(taken),
                 });
@@ -232,12 +246,53 @@ impl Script {
 
 /// Chosen lists of calls.
 impl Script {
-    /// Takes in a change, which must be answered done.
+    /// Takes in a change of version 0, which must be answered done.
     fn take_in(&mut self, timestamp: u64, program: &[Instruction], reached: &mut Reached<Event>) {
-        let program = program.iter().flat_map(|i| i.to_bytes()).collect();
-        self.make(Call::TakeIn { timestamp, program }, reached);
-        let held = self.both.tables().place_of(timestamp);
-        assert!(held.is_some(), "{timestamp} is taken in");
+        self.take_in_by(Version::Zero, timestamp, program, reached);
+    }
+
+    /// Takes in a change of this version, which must be answered done.
+    fn take_in_by(
+        &mut self,
+        version: Version,
+        timestamp: u64,
+        program: &[Instruction],
+        reached: &mut Reached<Event>,
+    ) {
+        let answer = self.try_take_in(version, timestamp, program, reached);
+        assert_eq!(answer, DONE, "{timestamp} is taken in");
+    }
+
+    /// Takes in a change of this version, and returns the answer.
+    fn try_take_in(
+        &mut self,
+        version: Version,
+        timestamp: u64,
+        program: &[Instruction],
+        reached: &mut Reached<Event>,
+    ) -> u8 {
+        let change = Change {
+            timestamp,
+            version,
+            program: program.iter().flat_map(|i| i.to_bytes()).collect(),
+        };
+        self.make(change.call(), reached);
+        match self.calls.last() {
+            Some(book::Call::TakeIn { answer, .. }) => *answer,
+            call => panic!("{call:?} is the last call"),
+        }
+    }
+
+    /// Panics unless a change has these lists.
+    #[track_caller]
+    fn assert_lists(&self, timestamp: u64, reads: &[(u16, i32)], writes: &[(u16, i32)]) {
+        fn pairs(list: impl Iterator<Item = Access>) -> Vec<(u16, i32)> {
+            list.map(|entry| (entry.setting, entry.value)).collect()
+        }
+        let tables = self.both.tables();
+        let place = tables.place_of(timestamp).expect("it is held");
+        assert_eq!(pairs(tables.read_list(place)), reads);
+        assert_eq!(pairs(tables.write_list(place)), writes);
     }
 
     /// Drains as [`Self::drain`] does, and panics unless these are the turns.
@@ -290,18 +345,31 @@ fn count_taken(
     reached: &mut Reached<Event>,
     before: &Tables,
     timestamp: u64,
+    version: u16,
+    program: &[u8],
     taken: Result<Taken, u8>,
 ) {
+    let full = before.held_count() == before.timestamps.len();
+    let place = before.place_of(timestamp);
+    let withdrawn = place.is_some_and(|place| before.withdrawn[place] == 1);
     match taken {
-        Ok(Taken::Done) => reached.count(Event::Taken),
+        Ok(Taken::Done) => {
+            let version = Version::from_number(version).expect("it is not refused");
+            reached.count(Event::Taken(version));
+        }
         Ok(Taken::AlreadyHeld) => {
-            let place = before.place_of(timestamp).expect("it is held");
-            let full = before.held_count() == before.timestamps.len();
             reached.count(Event::Held);
-            reached.count_if(before.withdrawn[place] == 1, Event::HeldWithdrawn);
+            reached.count_if(withdrawn, Event::HeldWithdrawn);
             reached.count_if(full, Event::HeldWhenFull);
         }
-        Err(refusal) => reached.count(Event::TakeInRefused(refusal)),
+        Err(refusal) => {
+            reached.count(Event::TakeInRefused(refusal));
+            if refusal == 8 && place.is_some_and(|place| before.program(place) == program) {
+                reached.count(Event::OtherVersion);
+                reached.count_if(withdrawn, Event::OtherVersionWithdrawn);
+                reached.count_if(full, Event::OtherVersionWhenFull);
+            }
+        }
     }
 }
 
@@ -315,12 +383,18 @@ fn count_package(
         Ok(()) => {
             reached.count(Event::Package);
             let entries = entries(package).expect("it is not refused");
+            let mut done = BTreeSet::new();
             for (entry, &answer) in entries.iter().zip(answers) {
                 reached.count(match entry {
                     Entry::Change { .. } => Event::ChangeAnswered(answer),
                     Entry::Withdrawal { .. } => Event::WithdrawalAnswered(answer),
                 });
+                if let (Entry::Change { version, .. }, DONE) = (entry, answer) {
+                    done.insert(*version);
+                }
             }
+            let both = done.len() == Version::ALL.len();
+            reached.count_if(both, Event::PackageOfBothVersions);
         }
         Err(refusal) => reached.count(Event::PackageRefused(refusal)),
     }
@@ -348,7 +422,8 @@ fn lists_of_calls_have_the_same_answers_and_tables_and_meet_demand_3() {
     });
 
     for event in [
-        Event::Taken,
+        Event::Taken(Version::Zero),
+        Event::Taken(Version::One),
         Event::Package,
         Event::Idle,
         Event::DrainOfSeveral,
@@ -371,6 +446,10 @@ fn lists_of_calls_have_the_same_answers_and_tables_and_meet_demand_3() {
         Event::Held,
         Event::HeldWithdrawn,
         Event::HeldWhenFull,
+        Event::OtherVersion,
+        Event::OtherVersionWithdrawn,
+        Event::OtherVersionWhenFull,
+        Event::PackageOfBothVersions,
         Event::DrainOfNone,
         Event::DrainMarks,
         Event::SetUp,
@@ -378,9 +457,11 @@ fn lists_of_calls_have_the_same_answers_and_tables_and_meet_demand_3() {
         Event::Turn(TurnEvent::Answered(Turned::Stood)),
         Event::Turn(TurnEvent::FaultedFirst),
         Event::Turn(TurnEvent::FaultedAgain),
-        Event::Turn(TurnEvent::Faulted(Fault::NoSuchSetting)),
-        Event::Turn(TurnEvent::Faulted(Fault::ReadOfWritten)),
-        Event::Turn(TurnEvent::Faulted(Fault::WrittenTwice)),
+        Event::Turn(TurnEvent::Faulted(Version::Zero, Fault::NoSuchSetting)),
+        Event::Turn(TurnEvent::Faulted(Version::Zero, Fault::ReadOfWritten)),
+        Event::Turn(TurnEvent::Faulted(Version::Zero, Fault::WrittenTwice)),
+        Event::Turn(TurnEvent::Faulted(Version::One, Fault::NoSuchSetting)),
+        Event::Turn(TurnEvent::FaultedAfterOwnWrite),
         Event::Turn(TurnEvent::FaultedAfterReads),
         Event::Turn(TurnEvent::RanAfterFault),
         Event::Turn(TurnEvent::FaultedAfterFault),
@@ -427,10 +508,26 @@ fn lists_of_calls_have_the_same_answers_and_tables_and_meet_demand_3() {
             reached.assert_at_least(SCRIPTS / 20, Event::PackageOut(event));
         }
     }
+    for own_write in OwnWrite::ALL {
+        for event in [TurnEvent::OwnWriteFirst, TurnEvent::OwnWriteAgain] {
+            reached.assert_at_least(SCRIPTS / 20, Event::Turn(event(own_write)));
+        }
+        let stood = TurnEvent::OwnWriteStood(own_write);
+        reached.assert_at_least(SCRIPTS / 100, Event::Turn(stood));
+    }
+    for version in Version::ALL {
+        for event in [
+            PackageEvent::Version(version),
+            PackageEvent::WithdrawnVersion(version),
+            PackageEvent::BothVersions,
+        ] {
+            reached.assert_at_least(SCRIPTS / 20, Event::PackageOut(event));
+        }
+    }
     for (answered, answers) in [
         (
             Event::TakeInRefused as fn(u8) -> Event,
-            &[4, 6, 7, 8, 9][..],
+            &[4, 6, 13, 7, 8, 9][..],
         ),
         (Event::WithdrawRefused, &[4, 10, 11]),
         (Event::PackageRefused, &[1, 3]),
@@ -449,10 +546,15 @@ fn lists_of_calls_have_the_same_answers_and_tables_and_meet_demand_3() {
 /// Makes a call on the proved library alone.
 fn make_alone(n: usize, tables: &mut tolbezun::Tables, call: Call) -> book::Call {
     match call {
-        Call::TakeIn { timestamp, program } => {
-            let taken = proved::take_in(n, tables, timestamp, &program);
+        Call::TakeIn {
+            timestamp,
+            version,
+            program,
+        } => {
+            let taken = proved::take_in(n, tables, timestamp, version, &program);
             book::Call::TakeIn {
                 timestamp,
+                version,
                 program,
                 answer: number(taken),
             }
@@ -546,8 +648,8 @@ fn full_tables_of_capacity_4096_have_the_same_answers_and_tables_and_meet_demand
             for timestamps in timestamps.chunks(256) {
                 let mut entries = Vec::new();
                 for &timestamp in timestamps {
-                    let program = source.program(random);
-                    entries.push(Entry::Change { timestamp, program });
+                    let change = source.stamped(random, timestamp);
+                    entries.push(change.entry());
                     if random.below(16) == 0 {
                         let timestamp = 1 + random.below(n) as u64;
                         entries.push(Entry::Withdrawal { timestamp });
@@ -558,8 +660,8 @@ fn full_tables_of_capacity_4096_have_the_same_answers_and_tables_and_meet_demand
                 script.make(Call::TakeInPackage { package, answers }, &mut reached);
             }
             if full {
-                let (timestamp, program) = (n as u64 + 1, Vec::new());
-                script.make(Call::TakeIn { timestamp, program }, &mut reached);
+                let change = source.stamped(random, n as u64 + 1);
+                script.make(change.call(), &mut reached);
             }
             for _ in 0..8 {
                 let timestamp = random.pick(first);
@@ -593,8 +695,8 @@ fn lists_of_calls_at_capacity_4096_have_the_same_answers_and_tables_and_meet_dem
         let source = &mut Source::new(random, MAX_CAPACITY);
         let mut script = Script::new(MAX_CAPACITY);
         for _ in 0..HELD[index] {
-            let (timestamp, program) = source.new_change(random).expect("there are enough");
-            script.make(Call::TakeIn { timestamp, program }, reached);
+            let change = source.new_change(random).expect("there are enough");
+            script.make(change.call(), reached);
         }
         script.make_all(random, source, 60, reached);
     });
@@ -625,32 +727,30 @@ fn named_at(place: usize, op: u8) -> [Instruction; MAX_INSTRUCTIONS] {
 
 /// A program that sets [`NAMES`].
 fn name(n: i32) -> [Instruction; 2] {
-    let [constant, write] = [(op::CONSTANT, n), (op::WRITE, NAMES)];
-    [constant, write].map(|(op, n)| Instruction {
-        op,
-        n,
-        ..Instruction::default()
-    })
+    [instruction(op::CONSTANT, n), instruction(op::WRITE, NAMES)]
 }
 
-/// Change 100 runs for the first time and six times more, as late changes say.
+/// Change 100 runs for the first time and six times more, as late changes say. By version 1 it does
+/// not fault at what it has written.
 #[test]
 fn faults_at_every_place_are_shown() {
     let mut reached = Reached::default();
-    for place in LOWEST_FAULT..MAX_INSTRUCTIONS {
-        for op in [op::READ_INDEXED, op::WRITE_INDEXED] {
-            let mut script = Script::new(8);
-            script.take_in(100, &named_at(place, op), &mut reached);
-            let named = [-1, 41, 1024, WRITTEN, 41, WRITTEN, i32::MIN];
-            for (timestamp, named) in (1..).zip(named) {
-                let turned = match named {
-                    41 => Turned::Ran,
-                    WRITTEN if place == 1 => Turned::Ran,
-                    _ => Turned::Faulted(place),
-                };
-                script.take_in(timestamp, &name(named), &mut reached);
-                let turns = [(timestamp, Turned::Ran), (100, turned)];
-                script.assert_drains(&turns, &mut reached);
+    for version in Version::ALL {
+        for place in LOWEST_FAULT..MAX_INSTRUCTIONS {
+            for op in [op::READ_INDEXED, op::WRITE_INDEXED] {
+                let mut script = Script::new(8);
+                script.take_in_by(version, 100, &named_at(place, op), &mut reached);
+                let named = [-1, 41, 1024, WRITTEN, 41, WRITTEN, i32::MIN];
+                for (timestamp, named) in (1..).zip(named) {
+                    let turned = match named {
+                        41 => Turned::Ran,
+                        WRITTEN if place == 1 || version == Version::One => Turned::Ran,
+                        _ => Turned::Faulted(place),
+                    };
+                    script.take_in(timestamp, &name(named), &mut reached);
+                    let turns = [(timestamp, Turned::Ran), (100, turned)];
+                    script.assert_drains(&turns, &mut reached);
+                }
             }
         }
     }
@@ -660,15 +760,17 @@ fn faults_at_every_place_are_shown() {
         TurnEvent::FaultedAgain,
         TurnEvent::RanAfterFault,
         TurnEvent::FaultedAfterRan,
-        TurnEvent::Faulted(Fault::NoSuchSetting),
+        TurnEvent::Faulted(Version::Zero, Fault::NoSuchSetting),
+        TurnEvent::Faulted(Version::One, Fault::NoSuchSetting),
     ] {
         reached.assert_at_least(2 * places, Event::Turn(event));
     }
     // At place 1 nothing is written before.
     for event in [
         TurnEvent::FaultedAfterFault,
-        TurnEvent::Faulted(Fault::ReadOfWritten),
-        TurnEvent::Faulted(Fault::WrittenTwice),
+        TurnEvent::Faulted(Version::Zero, Fault::ReadOfWritten),
+        TurnEvent::Faulted(Version::Zero, Fault::WrittenTwice),
+        TurnEvent::OwnWriteAgain(OwnWrite::ReadBack(op::READ_INDEXED)),
     ] {
         reached.assert_at_least(2 * (places - 1), Event::Turn(event));
     }
@@ -752,4 +854,148 @@ fn totals_show_the_console_whose_changes_run_again() {
     script.make(Call::Turn, &mut reached);
     script.take_in(270, &name(41), &mut reached);
     script.assert_counts(&[(56, 1), (81, 1)], &mut reached);
+}
+
+/// An instruction on register 0.
+fn instruction(op: u8, n: i32) -> Instruction {
+    Instruction {
+        op,
+        n,
+        ..Instruction::default()
+    }
+}
+
+/// A program that adds 1 to [`NAMES`], and puts what it reads back to [`WRITTEN`].
+fn add_and_copy() -> [Instruction; 6] {
+    let one = Instruction {
+        a: 1,
+        ..instruction(op::CONSTANT, 1)
+    };
+    let sum = Instruction {
+        c: 1,
+        ..instruction(op::ADD, 0)
+    };
+    [
+        instruction(op::READ, NAMES),
+        one,
+        sum,
+        instruction(op::WRITE, NAMES),
+        instruction(op::READ, NAMES),
+        instruction(op::WRITE, WRITTEN),
+    ]
+}
+
+/// A program that sets [`NAMES`], and then again to this.
+fn name_twice(n: i32) -> [Instruction; 4] {
+    let [first, second] = [name(-1), name(n)];
+    [first[0], first[1], second[0], second[1]]
+}
+
+/// The same programs by both versions. 36 starts at 0.
+#[test]
+fn each_change_runs_by_its_own_version() {
+    let mut reached = Reached::default();
+    let mut script = Script::new(4);
+    for (version, timestamps) in [(Version::Zero, [10, 30]), (Version::One, [20, 40])] {
+        let [first, second] = timestamps;
+        script.take_in_by(version, first, &add_and_copy(), &mut reached);
+        script.take_in_by(version, second, &name_twice(7), &mut reached);
+    }
+    let turns = [
+        (10, Turned::Faulted(4)),
+        (20, Turned::Ran),
+        (30, Turned::Faulted(3)),
+        (40, Turned::Ran),
+    ];
+    script.assert_drains(&turns, &mut reached);
+    script.assert_lists(10, &[(36, 0)], &[]);
+    script.assert_lists(20, &[(36, 0)], &[(36, 1), (40, 1)]);
+    script.assert_lists(30, &[], &[]);
+    script.assert_lists(40, &[], &[(36, 7)]);
+}
+
+/// Change 100, of version 1, runs again as late changes and withdrawals say, and not where they give
+/// 36 the value that it saw.
+#[test]
+fn a_change_that_reads_back_runs_again_by_what_it_read_before() {
+    let mut reached = Reached::default();
+    let mut script = Script::new(8);
+    script.take_in_by(Version::One, 100, &add_and_copy(), &mut reached);
+    script.assert_drains(&[(100, Turned::Ran)], &mut reached);
+    script.assert_lists(100, &[(36, 0)], &[(36, 1), (40, 1)]);
+
+    script.take_in(10, &name(41), &mut reached);
+    script.assert_drains(&[(10, Turned::Ran), (100, Turned::Ran)], &mut reached);
+    script.assert_lists(100, &[(36, 41)], &[(36, 42), (40, 42)]);
+
+    // The value that 20 replaces is another, its last one is the same.
+    script.take_in_by(Version::One, 20, &name_twice(41), &mut reached);
+    script.assert_drains(&[(20, Turned::Ran)], &mut reached);
+    script.assert_lists(20, &[], &[(36, 41)]);
+    script.make(Call::Withdraw { timestamp: 10 }, &mut reached);
+    script.assert_drains(&[(10, Turned::Cleared)], &mut reached);
+
+    // 30 marks it, and 50 lets it stand.
+    script.take_in(30, &name(42), &mut reached);
+    script.make(Call::Turn, &mut reached);
+    script.take_in_by(Version::One, 50, &name_twice(41), &mut reached);
+    script.assert_drains(&[(50, Turned::Ran), (100, Turned::Stood)], &mut reached);
+    script.assert_lists(100, &[(36, 41)], &[(36, 42), (40, 42)]);
+
+    script.make(Call::Withdraw { timestamp: 50 }, &mut reached);
+    let turns = [(50, Turned::Cleared), (100, Turned::Ran)];
+    script.assert_drains(&turns, &mut reached);
+    script.assert_lists(100, &[(36, 42)], &[(36, 43), (40, 43)]);
+    script.make(Call::Withdraw { timestamp: 100 }, &mut reached);
+    script.assert_drains(&[(100, Turned::Cleared)], &mut reached);
+    script.assert_lists(100, &[], &[]);
+
+    let again = TurnEvent::OwnWriteAgain(OwnWrite::ReadBackAfterRead(op::READ));
+    let stood = TurnEvent::OwnWriteStood(OwnWrite::ReadBackAfterRead(op::READ));
+    reached.assert_at_least(2, Event::Turn(again));
+    reached.assert_at_least(1, Event::Turn(stood));
+}
+
+/// Change 100, of version 1, sets 36 before it reads it: nothing late has it run again.
+#[test]
+fn a_change_that_only_reads_back_does_not_run_again() {
+    let mut reached = Reached::default();
+    let mut script = Script::new(4);
+    let program = [&name(5)[..], &add_and_copy()].concat();
+    script.take_in_by(Version::One, 100, &program, &mut reached);
+    script.assert_drains(&[(100, Turned::Ran)], &mut reached);
+    script.assert_lists(100, &[], &[(36, 6), (40, 6)]);
+    script.take_in(10, &name(41), &mut reached);
+    script.assert_drains(&[(10, Turned::Ran)], &mut reached);
+    script.make(Call::Withdraw { timestamp: 10 }, &mut reached);
+    script.assert_drains(&[(10, Turned::Cleared)], &mut reached);
+    script.assert_lists(100, &[], &[(36, 6), (40, 6)]);
+}
+
+/// By version 0 a change that was sent by version 1 is another, and the other way round; the call
+/// does not alter by which it runs.
+#[test]
+fn the_version_is_part_of_the_program() {
+    let mut reached = Reached::default();
+    for version in Version::ALL {
+        let mut script = Script::new(1);
+        let other = generate::other_version(version);
+        let program = name_twice(7);
+        script.take_in_by(version, 100, &program, &mut reached);
+        let answer = script.try_take_in(version, 100, &program, &mut reached);
+        assert_eq!(answer, ALREADY_HELD);
+        let answer = script.try_take_in(other, 100, &program, &mut reached);
+        assert_eq!(answer, 8);
+        let turned = match version {
+            Version::Zero => Turned::Faulted(3),
+            Version::One => Turned::Ran,
+        };
+        script.assert_drains(&[(100, turned)], &mut reached);
+        script.make(Call::Withdraw { timestamp: 100 }, &mut reached);
+        let answer = script.try_take_in(other, 100, &program, &mut reached);
+        assert_eq!(answer, 8);
+        script.assert_drains(&[(100, Turned::Cleared)], &mut reached);
+    }
+    reached.assert_at_least(4, Event::OtherVersionWhenFull);
+    reached.assert_at_least(2, Event::OtherVersionWithdrawn);
 }

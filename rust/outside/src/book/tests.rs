@@ -1,7 +1,7 @@
 use super::*;
 use crate::calls::Refusal;
 use crate::checker::drain;
-use crate::examples::{copy, not_zero, package, set, write_named_by, Script};
+use crate::examples::{add, copy, not_zero, package, set, set_version, write_named_by, Script};
 use crate::package::ALREADY_HELD;
 
 /// 30 copies 34 to 50, drained; 10 sets 34 to 7 and 20 sets 40 to 1 and is withdrawn, drained.
@@ -44,9 +44,12 @@ fn a_list_of_calls_meets_demand_3() {
 #[test]
 fn refused_and_held_calls_leave_the_book() {
     let mut script = drained();
-    assert_eq!(script.try_take_in(30, &copy(34, 50)), ALREADY_HELD);
-    assert_eq!(script.try_take_in(30, &copy(34, 51)), 8);
-    assert_eq!(script.try_take_in(0, &[]), 4);
+    assert_eq!(script.try_take_in(30, 0, &copy(34, 50)), ALREADY_HELD);
+    assert_eq!(script.try_take_in(30, 0, &copy(34, 51)), 8);
+    assert_eq!(script.try_take_in(30, 1, &copy(34, 50)), 8);
+    assert_eq!(script.try_take_in(30, 2, &copy(34, 50)), 13);
+    assert_eq!(script.try_take_in(31, 2, &copy(34, 50)), 13);
+    assert_eq!(script.try_take_in(0, 0, &[]), 4);
     assert_eq!(script.try_withdraw(20), 11);
     assert_eq!(script.try_withdraw(21), 10);
     assert_eq!(script.take_in_package(vec![0]), 3);
@@ -75,6 +78,86 @@ fn entries_of_a_package_count_as_calls() {
     };
     answers[3] = 11;
     assert_eq!(script.check(), Err(Breach::Writes(9)));
+}
+
+/// The version that a call took a change in with.
+fn version_of(call: &mut Call) -> &mut u16 {
+    match call {
+        Call::TakeIn { version, .. } => version,
+        _ => panic!("{call:?}"),
+    }
+}
+
+/// "The drained state is that of running each change by its own version." (document 02, R-6)
+#[test]
+fn the_fresh_run_is_by_the_versions_of_the_calls() {
+    let program = [add(34, 1), copy(34, 50)].concat();
+    let mut script = Script::new(4);
+    script.take_in(10, &program);
+    script.take_in_1(20, &program);
+    script.take_in_1(30, &[set(40, 5), set(40, 6)].concat());
+    script.drain();
+    assert_eq!(script.view(), [(34, 2), (40, 6), (50, 2)]);
+    // The other version: 10 does not fault, 20 and 30 do.
+    for (index, timestamp) in [10, 20, 30].into_iter().enumerate() {
+        let version = version_of(&mut script.calls[index]);
+        let right = *version;
+        *version = 1 - right;
+        assert_eq!(script.check(), Err(Breach::Writes(timestamp)));
+        *version_of(&mut script.calls[index]) = right;
+        assert_eq!(script.check(), Ok(()));
+    }
+}
+
+#[test]
+fn entries_of_a_package_count_with_their_versions() {
+    let program = [set(40, 5), set(40, 6)].concat();
+    let mut bytes = package(&[(9, 0, &program), (8, 0, &program), (9, 0, &program)]);
+    set_version(&mut bytes, 0, 1);
+    let mut script = Script::new(4);
+    assert_eq!(script.take_in_package(bytes), DONE);
+    let faulted = Turned::Faulted(3);
+    assert_eq!(script.drain(), [(8, faulted), (9, Turned::Ran)]);
+    assert_eq!(script.view(), [(40, 6)]);
+    for (entry, version, breach) in [
+        (0, 0, Err(Breach::Writes(9))),
+        (1, 1, Err(Breach::Writes(8))),
+        // It was answered 8.
+        (2, 1, Ok(())),
+    ] {
+        let mut script = script.clone();
+        let Call::TakeInPackage { package, .. } = &mut script.calls[0] else {
+            panic!("the first call is a package");
+        };
+        set_version(package, entry, version);
+        assert_eq!(script.check(), breach);
+    }
+}
+
+/// There is none to run a change by, so the book lacks it.
+#[test]
+fn a_version_above_1_is_not_answered_done() {
+    for version in [2, 256, u16::MAX] {
+        let mut script = drained();
+        *version_of(&mut script.calls[0]) = version;
+        assert_eq!(script.check(), Err(Breach::Timestamps));
+    }
+}
+
+/// Change 20 saw 7 in 34 before it wrote 8 there, which it read back.
+#[test]
+fn a_change_that_reads_back_is_not_run_again_in_vain() {
+    let mut script = Script::new(4);
+    script.take_in_1(20, &[add(34, 1), copy(34, 50)].concat());
+    script.drain();
+    script.take_in(10, &set(34, 7));
+    script.drain();
+    assert_eq!(script.reads(20), [(34, 7)]);
+    for (seen, breach) in [(1, Ok(())), (8, Ok(())), (7, Err(Breach::RunInVain(20)))] {
+        let (_, turns) = drain_of(&mut script.calls[1]);
+        turns[0].reads[0].value = seen;
+        assert_eq!(script.check(), breach);
+    }
 }
 
 #[test]

@@ -1,5 +1,5 @@
 use super::*;
-use crate::examples::{add, copy, package, package_of_70_bytes, set};
+use crate::examples::{add, copy, package, package_of_70_bytes, set, set_version};
 use crate::program::Instruction;
 
 #[test]
@@ -82,6 +82,28 @@ turn 20 ran
 setting 51 1
 ";
     assert_eq!(listing(&package), expected);
+}
+
+/// The package of the test before with 10 by version 1 (document 02, R-6), and with a version that
+/// there is not.
+#[test]
+fn each_change_is_listed_by_its_own_version() {
+    let mut package = package(&[
+        (20, 0, &copy(34, 51)),
+        (10, 0, &[set(34, 7), copy(34, 51)].concat()),
+    ]);
+    set_version(&mut package, 1, 1);
+    let expected = "\
+entry 0 taken
+entry 1 taken
+turn 10 ran
+turn 20 ran
+setting 34 7
+setting 51 7
+";
+    assert_eq!(listing(&package), expected);
+    set_version(&mut package, 1, 2);
+    assert_eq!(listing(&package), "package refused 3\n");
 }
 
 #[test]

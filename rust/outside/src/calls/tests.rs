@@ -37,6 +37,7 @@ fn refusals_have_their_numbers() {
         (Refusal::Timestamp, 4),
         (Refusal::Setting, 5),
         (Refusal::Program(Malformed::Length), 6),
+        (Refusal::Program(Malformed::Version), 13),
         (Refusal::Program(Malformed::Instruction), 7),
         (Refusal::OtherProgram, 8),
         (Refusal::Full, 9),
@@ -57,6 +58,11 @@ fn lengths_come_before_form_and_form_before_arguments() {
     assert_all_refused(5, &tables, Refusal::Length);
     tables.view.pop();
     assert_all_refused(6, &tables, Refusal::Length);
+    let mut tables = four_changes();
+    tables.versions[0] = 2;
+    assert_all_refused(6, &tables, Refusal::Form);
+    tables.versions.push(0);
+    assert_all_refused(6, &tables, Refusal::Length);
     assert_all_refused(0, &Tables::new(0), Refusal::Length);
     assert_all_refused(4097, &Tables::new(4097), Refusal::Length);
 }
@@ -68,10 +74,12 @@ fn set_up_fills_every_table_with_0_and_the_view_with_the_start_values() {
     let mut tables = four_changes();
     tables.held[0] = 7;
     tables.order.fill(9);
+    tables.versions.fill(1);
     tables.view.fill(-1);
     assert_eq!(set_up(6, &mut tables), Ok(()));
     assert_eq!(tables, Tables::new(6));
     assert_eq!(tables.view, settings_at_start());
+    assert_eq!(tables.versions, [0; 6]);
     let mut largest = Tables::new(MAX_CAPACITY);
     assert_eq!(set_up(MAX_CAPACITY, &mut largest), Ok(()));
 }
@@ -228,6 +236,30 @@ fn each_run_sees_what_those_before_it_leave() {
     let tables = tables(5, &[4, 3, 2, 1, 0], &changes);
     // Change 40 faults and writes nothing.
     assert_eq!(plain(5, &tables), [(34, i32::MIN), (50, i32::MIN)]);
+}
+
+/// "running each change by its own version" (document 02, R-6).
+#[test]
+fn the_plain_run_runs_each_change_by_its_own_version() {
+    let change = |timestamp, version, program| Change {
+        timestamp,
+        version,
+        program,
+        ..Change::default()
+    };
+    // 20 sets 34 to 7, copies it to 50 and sets it to 9; 10 writes 60 twice, 30 copies 34.
+    let by = |twice, back| {
+        let changes = [
+            change(20, back, [set(34, 7), copy(34, 50), set(34, 9)].concat()),
+            change(10, twice, [set(60, 1), set(60, 2)].concat()),
+            change(30, 0, copy(34, 51)),
+        ];
+        plain(3, &tables(3, &[1, 0, 2], &changes))
+    };
+    assert_eq!(by(0, 0), [(51, 1)]);
+    assert_eq!(by(1, 0), [(51, 1), (60, 2)]);
+    assert_eq!(by(0, 1), [(34, 9), (50, 7), (51, 9)]);
+    assert_eq!(by(1, 1), [(34, 9), (50, 7), (51, 9), (60, 2)]);
 }
 
 #[test]

@@ -271,7 +271,7 @@ fn a_drain_counts_faults_by_themselves() {
     ] {
         let program = assemble(&program);
         assert_eq!(
-            take_in(4, &mut tables, timestamp, &program),
+            take_in(4, &mut tables, timestamp, 0, &program),
             Ok(Taken::Done)
         );
     }
@@ -417,6 +417,142 @@ fn a_drain_refuses_totals_that_are_not_1024_before_it_looks_at_the_form() {
             assert_eq!(lent, vec![9; length]);
             assert_eq!(tables, before);
         }
+    }
+}
+
+// Document 02, R-6.
+
+/// Adds 1 to 34, and copies what it wrote to 50.
+fn add_and_copy() -> Vec<Instruction> {
+    [add(34, 1), copy(34, 50)].concat()
+}
+
+#[test]
+fn a_change_is_run_by_its_own_version() {
+    let mut script = Script::new(4);
+    script.take_in(10, &add_and_copy());
+    script.take_in_1(20, &add_and_copy());
+    script.take_in_1(30, &[set(35, 5), set(36, 6), set(35, 7)].concat());
+    script.take_in(40, &[set(35, 5), set(36, 6), set(35, 7)].concat());
+    let turns = [(10, Faulted(4)), (20, Ran), (30, Ran), (40, Faulted(5))];
+    assert_eq!(script.drain(), turns);
+    assert_eq!(script.reads(10), [(34, 1)]);
+    assert_eq!(script.writes(10), []);
+    assert_eq!(script.reads(20), [(34, 1)]);
+    assert_eq!(script.writes(20), [(34, 2), (50, 2)]);
+    assert_eq!(script.reads(30), []);
+    assert_eq!(script.writes(30), [(35, 7), (36, 6)]);
+    assert_eq!(script.view(), [(34, 2), (35, 7), (36, 6), (50, 2)]);
+}
+
+/// What it read before it wrote is on its read list, with the value seen then.
+#[test]
+fn a_change_that_reads_back_runs_again_where_what_it_read_before_is_another() {
+    let mut script = Script::new(4);
+    script.take_in_1(20, &add_and_copy());
+    script.take_in(30, &copy(50, 60));
+    assert_eq!(script.drain(), [(20, Ran), (30, Ran)]);
+    script.take_in_1(10, &set(34, 7));
+    assert_eq!(script.drain(), [(10, Ran), (20, Ran), (30, Ran)]);
+    assert_eq!(script.reads(20), [(34, 7)]);
+    assert_eq!(script.writes(20), [(34, 8), (50, 8)]);
+    assert_eq!(script.view(), [(34, 8), (50, 8), (60, 8)]);
+    script.withdraw(10);
+    assert_eq!(script.drain(), [(10, Cleared), (20, Ran), (30, Ran)]);
+    assert_eq!(script.reads(20), [(34, 1)]);
+    assert_eq!(script.writes(20), [(34, 2), (50, 2)]);
+    script.withdraw(20);
+    assert_eq!(script.drain(), [(20, Cleared), (30, Ran)]);
+    // 30 copies the 1 that 50 starts at.
+    assert_eq!(script.view(), [(60, 1)]);
+}
+
+/// What it only read back is on no read list: it saw nothing of others.
+#[test]
+fn a_change_that_only_reads_back_does_not_run_again() {
+    let mut script = Script::new(4);
+    script.take_in_1(20, &[set(34, 5), copy(34, 50)].concat());
+    assert_eq!(script.drain(), [(20, Ran)]);
+    assert_eq!(script.reads(20), []);
+    script.take_in(10, &set(34, 7));
+    assert_eq!(script.drain(), [(10, Ran)]);
+    script.withdraw(10);
+    assert_eq!(script.drain(), [(10, Cleared)]);
+    assert_eq!(script.view(), [(34, 5), (50, 5)]);
+}
+
+#[test]
+fn a_change_that_reads_back_stands() {
+    let mut script = Script::new(4);
+    script.take_in_1(30, &add_and_copy());
+    script.drain();
+    script.take_in(10, &set(34, 7));
+    assert_eq!(script.turn(), Some((10, Ran)));
+    script.take_in(20, &set(34, 1));
+    assert_eq!(script.drain(), [(20, Ran), (30, Stood)]);
+    assert_eq!(script.writes(30), [(34, 2), (50, 2)]);
+}
+
+/// Of two writes the last value is the one that others see, and that a later run is compared with.
+#[test]
+fn a_value_that_is_replaced_marks_nobody() {
+    let mut script = Script::new(4);
+    script.take_in_1(20, &[copy(40, 35), set(36, 1), set(35, 9)].concat());
+    script.take_in(30, &copy(35, 60));
+    assert_eq!(script.drain(), [(20, Ran), (30, Ran)]);
+    assert_eq!(script.writes(20), [(35, 9), (36, 1)]);
+    assert_eq!(script.reads(30), [(35, 9)]);
+    script.take_in(10, &set(40, 3));
+    assert_eq!(script.drain(), [(10, Ran), (20, Ran)]);
+    assert_eq!(script.view(), [(35, 9), (36, 1), (40, 3), (60, 9)]);
+}
+
+/// A run by version 1 writes nothing either where it faults.
+#[test]
+fn a_register_that_names_no_setting_faults_by_version_1() {
+    let mut script = Script::new(4);
+    // 34 names what it then writes to, and so does 35, which it reads back.
+    script.take_in_1(
+        20,
+        &[set(35, 1024), set(35, 60), write_named_by(34)].concat(),
+    );
+    script.take_in_1(
+        30,
+        &[set(35, 60), set(35, 1024), write_named_by(35)].concat(),
+    );
+    script.take_in(10, &set(34, -1));
+    let turns = [(10, Ran), (20, Faulted(5)), (30, Faulted(5))];
+    assert_eq!(script.drain(), turns);
+    assert_eq!(script.reads(20), [(34, -1)]);
+    assert_eq!(script.reads(30), []);
+    assert_eq!(script.view(), [(34, -1)]);
+    script.take_in(15, &set(34, 35));
+    assert_eq!(script.drain(), [(15, Ran), (20, Ran)]);
+    assert_eq!(script.writes(20), [(35, 35)]);
+    assert_eq!(script.view(), [(34, 35), (35, 35)]);
+}
+
+/// The tables say by which version, whatever they say of earlier runs.
+#[test]
+fn tables_that_calls_need_not_reach_run_by_their_versions() {
+    for (version, turned, writes) in [(0, Faulted(4), vec![]), (1, Ran, vec![(34, 6), (50, 6)])] {
+        let invalid = |reads: &[(u16, i32)], writes: &[(u16, i32)], status| Change {
+            version,
+            program: add_and_copy(),
+            ..change(20, status, reads, writes)
+        };
+        let writer = change(10, VALID, &[], &[(34, 5)]);
+        let before = invalid(&[(34, 9), (7, 7)], &[(8, 8)], INVALID);
+        let mut given = tables(2, &[1, 0], &[before, writer.clone()]);
+        given.view[34] = 5;
+        let answer = turn(2, &mut given);
+        let timestamp = 20;
+        assert_eq!(answer, Ok(Some(Turn { timestamp, turned })));
+        let mut expected = tables(2, &[1, 0], &[invalid(&[(34, 5)], &writes, VALID), writer]);
+        for (setting, value) in [&[(34, 5)], &writes[..]].concat() {
+            expected.view[usize::from(setting)] = value;
+        }
+        assert_eq!(given, expected);
     }
 }
 

@@ -1,13 +1,13 @@
 use super::*;
-use crate::examples::{copy, package, set, Script};
+use crate::examples::{copy, package, set, set_version, Script};
 
 /// 30 copies 34 to 50, drained; 10 sets 34 to 7, and 20 sets 34 to 9 and is withdrawn. Two of them
-/// have their turns to come.
+/// have their turns to come. 10 has version 1.
 fn neighbour() -> Script {
     let mut script = Script::new(4);
     script.take_in(30, &copy(34, 50));
     script.drain();
-    script.take_in(10, &set(34, 7));
+    script.take_in_1(10, &set(34, 7));
     script.take_in(20, &set(34, 9));
     script.withdraw(20);
     script
@@ -51,14 +51,18 @@ fn what_is_written_is_the_books() {
 #[test]
 fn cabinets_with_equal_books_write_the_same() {
     let mut other = Script::new(9);
-    other.take_in_package(package(&[
+    let mut entries = package(&[
         (20, 0, &set(34, 9)),
         (20, 1, &[]),
         (20, 1, &[]),
         (10, 0, &set(34, 7)),
         (20, 0, &set(34, 9)),
         (10, 0, &set(34, 8)),
-    ]));
+        (10, 0, &set(34, 7)),
+    ]);
+    // 10 by version 1, and then by version 0.
+    set_version(&mut entries, 3, 1);
+    assert_eq!(other.take_in_package(entries), DONE);
     other.turn();
     other.take_in(30, &copy(34, 50));
     let package = other.package_out();
@@ -78,8 +82,17 @@ fn other_entries_are_told() {
         (30, 0, &copy(34, 50)),
         (20, 1, &[]),
     ];
-    let check = |entries: &[_]| check_package(&calls, LENGTH, Ok(&package(entries)));
-    assert_eq!(check(&[ten, twenty, thirty, withdrawal]), Ok(()));
+    // All have version 0 but the first, which has this one.
+    let check_with = |version, entries: &[_]| {
+        let mut package = package(entries);
+        set_version(&mut package, 0, version);
+        check_package(&calls, LENGTH, Ok(&package))
+    };
+    let check = |entries: &[_]| check_with(1, entries);
+    let all = [ten, twenty, thirty, withdrawal];
+    assert_eq!(check(&all), Ok(()));
+    assert_eq!(check_with(0, &all), Err(Breach::Entries));
+    assert_eq!(check_with(2, &all), Err(Breach::Layout));
     for entries in [
         // By arrival, a withdrawal at its change, a withdrawal too few and too many.
         &[thirty, ten, twenty, withdrawal][..],
@@ -175,8 +188,10 @@ fn another_state_is_told() {
     let package = neighbour.package_out();
     neighbour.drain();
     // The places are by timestamp here: 10, 20 and 30.
-    let alterations: [(Alter, Breach); 12] = [
+    let alterations: [(Alter, Breach); 14] = [
         (|tables| tables.timestamps[2] = 31, Breach::Timestamps),
+        (|tables| tables.versions[0] = 0, Breach::Change(10)),
+        (|tables| tables.versions[1] = 1, Breach::Change(20)),
         (|tables| tables.programs[4] = 8, Breach::Change(10)),
         (|tables| tables.lengths[0] = 1, Breach::Change(10)),
         (|tables| tables.withdrawn[1] = 0, Breach::Change(20)),

@@ -1,6 +1,6 @@
 use super::*;
 use crate::examples::{assemble, copy, four_changes, set, tables, Change, INVALID, NEW, VALID};
-use crate::program::Malformed;
+use crate::program::{Instruction, Malformed};
 use crate::tables::MAX_CAPACITY;
 
 /// Takes in a change on a copy of these tables, which a refusal or already held must not alter, and
@@ -10,10 +10,11 @@ fn answer_unaltered(
     n: usize,
     tables: &Tables,
     timestamp: u64,
+    version: u16,
     program: &[u8],
 ) -> Result<Taken, Refusal> {
     let mut lent = tables.clone();
-    let answer = take_in(n, &mut lent, timestamp, program);
+    let answer = take_in(n, &mut lent, timestamp, version, program);
     assert_ne!(answer, Ok(Taken::Done));
     assert_eq!(lent, *tables);
     answer
@@ -38,6 +39,7 @@ fn full() -> Tables {
         &mut tables.lengths,
         &mut tables.reads,
         &mut tables.writes,
+        &mut tables.versions,
     ] {
         by_place.truncate(4);
     }
@@ -58,15 +60,16 @@ fn full() -> Tables {
 fn a_change_has_the_next_place_and_its_rank_in_the_order() {
     let mut lent = Tables::new(3);
     let mut changes = Vec::new();
-    for (timestamp, program, order) in [
-        (20, set(34, 7), &[0][..]),
-        (10, copy(34, 50), &[1, 0]),
-        (15, vec![], &[1, 2, 0]),
+    for (timestamp, version, program, order) in [
+        (20, 0, set(34, 7), &[0][..]),
+        (10, 1, copy(34, 50), &[1, 0]),
+        (15, 1, vec![], &[1, 2, 0]),
     ] {
-        let taken = take_in(3, &mut lent, timestamp, &assemble(&program));
+        let taken = take_in(3, &mut lent, timestamp, version, &assemble(&program));
         assert_eq!(taken, Ok(Taken::Done));
         changes.push(Change {
             timestamp,
+            version,
             program,
             ..Change::default()
         });
@@ -76,13 +79,16 @@ fn a_change_has_the_next_place_and_its_rank_in_the_order() {
 
 #[test]
 fn taking_in_leaves_the_changes_before_it_as_they_are() {
-    let mut tables = four_changes();
-    let mut expected = four_changes();
-    assert_eq!(take_in(6, &mut tables, 5, &[]), Ok(Taken::Done));
-    expected.held[0] = 5;
-    expected.timestamps[4] = 5;
-    expected.order[..5].copy_from_slice(&[4, 1, 3, 0, 2]);
-    assert_eq!(tables, expected);
+    for version in [0, 1] {
+        let mut tables = four_changes();
+        let mut expected = four_changes();
+        assert_eq!(take_in(6, &mut tables, 5, version, &[]), Ok(Taken::Done));
+        expected.held[0] = 5;
+        expected.timestamps[4] = 5;
+        expected.versions[4] = version;
+        expected.order[..5].copy_from_slice(&[4, 1, 3, 0, 2]);
+        assert_eq!(tables, expected);
+    }
 }
 
 /// "Accepted: timestamps 1 and 2^64 − 2, 256 bytes, setting 1,023, N = 4,096."
@@ -91,8 +97,8 @@ fn what_document_01_accepts() {
     let mut tables = Tables::new(MAX_CAPACITY);
     let program = assemble(&set(1023, 1).repeat(16));
     assert_eq!(program.len(), 256);
-    for timestamp in [1, u64::MAX - 1] {
-        let taken = take_in(MAX_CAPACITY, &mut tables, timestamp, &program);
+    for (timestamp, version) in [(1, 0), (u64::MAX - 1, 1)] {
+        let taken = take_in(MAX_CAPACITY, &mut tables, timestamp, version, &program);
         assert_eq!(taken, Ok(Taken::Done));
     }
 }
@@ -102,7 +108,7 @@ fn what_document_01_accepts() {
 fn what_document_01_refuses() {
     let tables = four_changes();
     let refusal = |timestamp, program: &[u8]| {
-        let answer = answer_unaltered(6, &tables, timestamp, program);
+        let answer = answer_unaltered(6, &tables, timestamp, 0, program);
         answer.map_err(Refusal::number)
     };
     assert_eq!(refusal(0, &[]), Err(4));
@@ -111,20 +117,26 @@ fn what_document_01_refuses() {
     assert_eq!(refusal(50, &[0; 7]), Err(6));
     assert_eq!(refusal(50, &assemble(&set(1024, 1))), Err(7));
     let tables = Tables::new(4097);
-    let answer = answer_unaltered(4097, &tables, 50, &[]);
+    let answer = answer_unaltered(4097, &tables, 50, 0, &[]);
     assert_eq!(answer, Err(Refusal::Length));
+}
+
+/// What [`four_changes`] hold: timestamp, version and program.
+fn held() -> [(u64, u16, Vec<Instruction>); 4] {
+    [
+        (30, 0, copy(34, 50)),
+        (10, 1, [set(34, 7), set(40, 3)].concat()),
+        (40, 1, set(34, -5)),
+        (20, 0, set(34, 9)),
+    ]
 }
 
 #[test]
 fn the_same_program_is_already_held_withdrawn_or_not_full_or_not() {
     for (n, tables) in [(6, four_changes()), (4, full())] {
-        for (timestamp, program) in [
-            (30, copy(34, 50)),
-            (10, [set(34, 7), set(40, 3)].concat()),
-            (40, set(34, -5)),
-            (20, set(34, 9)),
-        ] {
-            let answer = answer_unaltered(n, &tables, timestamp, &assemble(&program));
+        for (timestamp, version, program) in held() {
+            let program = assemble(&program);
+            let answer = answer_unaltered(n, &tables, timestamp, version, &program);
             assert_eq!(answer, Ok(Taken::AlreadyHeld));
         }
     }
@@ -141,8 +153,39 @@ fn another_program_of_a_held_timestamp_is_8_full_or_not() {
             [set(34, 9), vec![Default::default()]].concat(),
             set(34, 9)[..1].to_vec(),
         ] {
-            let answer = answer_unaltered(n, &tables, 20, &assemble(&program));
+            let program = assemble(&program);
+            for version in [0, 1] {
+                let answer = answer_unaltered(n, &tables, 20, version, &program);
+                assert_eq!(answer, Err(Refusal::OtherProgram));
+            }
+        }
+    }
+}
+
+/// "The version is part of the program when a timestamp is already held." (document 02, R-6)
+#[test]
+fn another_version_of_a_held_program_is_8_withdrawn_or_not_full_or_not() {
+    for (n, tables) in [(6, four_changes()), (4, full())] {
+        for (timestamp, version, program) in held() {
+            let program = assemble(&program);
+            let answer = answer_unaltered(n, &tables, timestamp, 1 - version, &program);
             assert_eq!(answer, Err(Refusal::OtherProgram));
+        }
+    }
+}
+
+/// A version above 1 is no other program: it is refused before what is held is looked at.
+#[test]
+fn a_version_above_1_is_13_held_or_not_full_or_not() {
+    for (n, tables) in [(6, four_changes()), (4, full())] {
+        for version in [2, 3, 255, 256, 257, u16::MAX] {
+            for (timestamp, _, program) in held() {
+                let program = assemble(&program);
+                for timestamp in [timestamp, 50] {
+                    let answer = answer_unaltered(n, &tables, timestamp, version, &program);
+                    assert_eq!(answer.map_err(Refusal::number), Err(13));
+                }
+            }
         }
     }
 }
@@ -150,21 +193,24 @@ fn another_program_of_a_held_timestamp_is_8_full_or_not() {
 #[test]
 fn a_new_timestamp_is_9_when_full() {
     for timestamp in [1, 11, 21, 50, u64::MAX - 1] {
-        let answer = answer_unaltered(4, &full(), timestamp, &[]);
+        let answer = answer_unaltered(4, &full(), timestamp, 1, &[]);
         assert_eq!(answer, Err(Refusal::Full));
     }
     let mut one = Tables::new(1);
-    assert_eq!(take_in(1, &mut one, 7, &[]), Ok(Taken::Done));
-    assert_eq!(answer_unaltered(1, &one, 8, &[]), Err(Refusal::Full));
+    assert_eq!(take_in(1, &mut one, 7, 0, &[]), Ok(Taken::Done));
+    assert_eq!(answer_unaltered(1, &one, 8, 0, &[]), Err(Refusal::Full));
 }
 
 #[test]
 fn n_changes_are_held_before_it_is_full() {
     let mut tables = Tables::new(64);
     for timestamp in (1..=64).rev() {
-        assert_eq!(take_in(64, &mut tables, timestamp, &[]), Ok(Taken::Done));
+        assert_eq!(take_in(64, &mut tables, timestamp, 1, &[]), Ok(Taken::Done));
     }
-    assert_eq!(answer_unaltered(64, &tables, 65, &[]), Err(Refusal::Full));
+    assert_eq!(
+        answer_unaltered(64, &tables, 65, 1, &[]),
+        Err(Refusal::Full)
+    );
 }
 
 /// Each program breaks its own refusal and all that come later where it can.
@@ -173,24 +219,31 @@ fn take_in_refuses_in_order() {
     let mut tables = full();
     let malformed = Refusal::Program(Malformed::Instruction);
     let wrong_length = Refusal::Program(Malformed::Length);
+    let no_version = Refusal::Program(Malformed::Version);
     let other = assemble(&set(34, 8));
-    for (timestamp, program, refusal) in [
-        (0, &[255; 9][..], Refusal::Timestamp),
-        (u64::MAX, &[255; 9], Refusal::Timestamp),
-        (20, &[255; 9], wrong_length),
-        (50, &[255; 264], wrong_length),
-        (20, &[255; 16], malformed),
-        (50, &[255; 16], malformed),
-        (20, &other, Refusal::OtherProgram),
-        (50, &other, Refusal::Full),
+    let held = assemble(&set(34, 9));
+    for (timestamp, version, program, refusal) in [
+        (0, 2, &[255; 9][..], Refusal::Timestamp),
+        (u64::MAX, 2, &[255; 9], Refusal::Timestamp),
+        (20, 2, &[255; 9], wrong_length),
+        (50, 2, &[255; 264], wrong_length),
+        (20, 2, &[255; 16], no_version),
+        (50, 2, &[255; 16], no_version),
+        (20, 2, &held, no_version),
+        (50, 2, &held, no_version),
+        (20, 1, &[255; 16], malformed),
+        (50, 1, &[255; 16], malformed),
+        (20, 1, &other, Refusal::OtherProgram),
+        (20, 1, &held, Refusal::OtherProgram),
+        (50, 1, &other, Refusal::Full),
     ] {
-        let answer = answer_unaltered(4, &tables, timestamp, program);
+        let answer = answer_unaltered(4, &tables, timestamp, version, program);
         assert_eq!(answer, Err(refusal));
     }
     tables.status[0] = 3;
-    let answer = answer_unaltered(4, &tables, 0, &[255; 9]);
+    let answer = answer_unaltered(4, &tables, 0, 2, &[255; 9]);
     assert_eq!(answer, Err(Refusal::Form));
-    let answer = answer_unaltered(3, &tables, 0, &[255; 9]);
+    let answer = answer_unaltered(3, &tables, 0, 2, &[255; 9]);
     assert_eq!(answer, Err(Refusal::Length));
 }
 
@@ -203,6 +256,7 @@ fn withdrawing_sets_the_flag_and_makes_valid_invalid() {
         let mut change = Change {
             timestamp: 10,
             status,
+            version: 1,
             program: copy(34, 50),
             ..Change::default()
         };
@@ -245,8 +299,11 @@ fn a_withdrawn_change_stays_held() {
     let mut tables = four_changes();
     assert_eq!(withdraw(6, &mut tables, 20), Ok(()));
     assert_eq!(refused_withdrawal(6, &tables, 20), Refusal::Withdrawn);
-    let answer = answer_unaltered(6, &tables, 20, &assemble(&set(34, 9)));
+    let program = assemble(&set(34, 9));
+    let answer = answer_unaltered(6, &tables, 20, 0, &program);
     assert_eq!(answer, Ok(Taken::AlreadyHeld));
-    let answer = answer_unaltered(6, &tables, 20, &[]);
-    assert_eq!(answer, Err(Refusal::OtherProgram));
+    for (version, program) in [(0, &[][..]), (1, &program)] {
+        let answer = answer_unaltered(6, &tables, 20, version, program);
+        assert_eq!(answer, Err(Refusal::OtherProgram));
+    }
 }

@@ -1,6 +1,6 @@
 use super::*;
 use crate::examples::{
-    assemble, copy, four_changes, package, package_of_70_bytes, set, tables, Change,
+    assemble, copy, four_changes, package, package_of_70_bytes, set, set_version, tables, Change,
 };
 use crate::program::Instruction;
 use crate::tables::MAX_CAPACITY;
@@ -62,10 +62,12 @@ fn the_70_bytes_have_three_entries() {
     let expected = vec![
         Entry::Change {
             timestamp: 20,
+            version: Version::Zero,
             program: assemble(&copy(34, 50)),
         },
         Entry::Change {
             timestamp: 10,
+            version: Version::Zero,
             program: assemble(&set(34, 7)),
         },
         Entry::Withdrawal { timestamp: 15 },
@@ -162,15 +164,53 @@ fn a_withdrawal_has_no_instructions() {
     }
 }
 
+/// "The first zero byte of a package entry becomes the version, 0 or 1, kept with the change." "in a
+/// package that is refusal 3." (document 02, R-6)
 #[test]
-fn two_bytes_of_an_entry_are_0() {
+fn the_version_of_a_change_is_0_or_1() {
+    let mut package = package_of_70_bytes();
+    for versions in [[0, 0], [0, 1], [1, 0], [1, 1]] {
+        for (entry, version) in versions.into_iter().enumerate() {
+            set_version(&mut package, entry, version);
+        }
+        let read = entries(&package).expect("the layout is right");
+        let read: Vec<u16> = read
+            .iter()
+            .filter_map(|entry| match entry {
+                Entry::Change { version, .. } => Some(version.number()),
+                Entry::Withdrawal { .. } => None,
+            })
+            .collect();
+        assert_eq!(read, versions.map(u16::from));
+    }
+    for entry in [0, 1] {
+        for wrong in 2..=255 {
+            let mut package = package_of_70_bytes();
+            set_version(&mut package, entry, wrong);
+            assert_eq!(entries(&package), None, "{wrong}");
+        }
+    }
+}
+
+/// "A withdrawal has version 0." (document 02, R-6)
+#[test]
+fn the_version_of_a_withdrawal_is_0() {
+    let mut package = package_of_70_bytes();
+    set_version(&mut package, 2, 0);
+    assert!(entries(&package).is_some());
+    for wrong in 1..=255 {
+        set_version(&mut package, 2, wrong);
+        assert_eq!(entries(&package), None, "{wrong}");
+    }
+}
+
+#[test]
+fn the_last_byte_of_an_entry_is_0() {
     for entry in 0..3 {
-        for byte in [10, 11] {
-            for wrong in [1, 128, 255] {
-                let mut package = package_of_70_bytes();
-                package[2 + ENTRY_BYTES * entry + byte] = wrong;
-                assert_eq!(entries(&package), None);
-            }
+        for wrong in [1, 2, 128, 255] {
+            let mut package = package_of_70_bytes();
+            package[2 + ENTRY_BYTES * entry + 11] = wrong;
+            assert_eq!(entries(&package), None);
         }
     }
 }
@@ -220,6 +260,53 @@ fn the_70_bytes_are_taken_in() {
     assert_eq!(left, tables(4, &[1, 0], &changes));
     assert_eq!(answers[..3], [0, 0, 10]);
     assert_eq!(answers[3..], [99; 509]);
+}
+
+#[test]
+fn the_version_is_kept_with_the_change() {
+    let mut package = package_of_70_bytes();
+    set_version(&mut package, 1, 1);
+    let (left, answers) = taken_in(4, Tables::new(4), &package);
+    let change = |timestamp, version, program| Change {
+        timestamp,
+        version,
+        program,
+        ..Change::default()
+    };
+    let changes = [change(20, 0, copy(34, 50)), change(10, 1, set(34, 7))];
+    assert_eq!(left, tables(4, &[1, 0], &changes));
+    assert_eq!(answers[..3], [0, 0, 10]);
+    // Again, and each with the other version.
+    let (left_again, answers) = taken_in(4, left.clone(), &package);
+    assert_eq!(
+        (left_again, &answers[..3]),
+        (left.clone(), &[255, 255, 10][..])
+    );
+    for (versions, expected) in [
+        ([0, 0], [255, 8, 10]),
+        ([1, 1], [8, 255, 10]),
+        ([1, 0], [8, 8, 10]),
+    ] {
+        set_version(&mut package, 0, versions[0]);
+        set_version(&mut package, 1, versions[1]);
+        let (left_again, answers) = taken_in(4, left.clone(), &package);
+        assert_eq!((left_again, &answers[..3]), (left.clone(), &expected[..]));
+    }
+}
+
+/// The same change twice in a package, by both versions: the first counts.
+#[test]
+fn a_change_comes_by_both_versions_in_a_package() {
+    for version in [0, 1] {
+        let set = set(34, 7);
+        let mut package = package(&[(10, 0, &set), (10, 0, &set), (10, 1, &[]), (10, 0, &set)]);
+        for (entry, version) in [(0, version), (1, 1 - version), (3, 1 - version)] {
+            set_version(&mut package, entry, version);
+        }
+        let (left, answers) = taken_in(1, Tables::new(1), &package);
+        assert_eq!(answers[..4], [0, 8, 0, 8]);
+        assert_eq!(left.versions, [u16::from(version)]);
+    }
 }
 
 #[test]
@@ -292,6 +379,11 @@ fn a_breach_in_the_last_entry_leaves_the_first_out() {
     let mut package = package_of_70_bytes();
     package[2 + 2 * ENTRY_BYTES + 11] = 1;
     assert_refused(4, &Tables::new(4), &package, ANSWERS, Refusal::Package);
+    for (entry, version) in [(2, 1), (1, 2)] {
+        let mut package = package_of_70_bytes();
+        set_version(&mut package, entry, version);
+        assert_refused(4, &Tables::new(4), &package, ANSWERS, Refusal::Package);
+    }
 }
 
 // Package out.
@@ -319,12 +411,14 @@ fn assert_no_room(n: usize, tables: &Tables, length: usize) {
 }
 
 /// Tables of the highest capacity that hold a change of so many stops for each of these numbers,
-/// arrived by falling timestamp, of which the first so many places are withdrawn.
+/// arrived by falling timestamp, of which the first so many places are withdrawn and every third has
+/// version 1.
 fn holding(stops_of: &[usize], withdrawn: usize) -> Tables {
     let held = stops_of.len();
     let change = |(place, &count)| Change {
         timestamp: (held - place) as u64,
         withdrawn: u16::from(place < withdrawn),
+        version: u16::from(place % 3 == 0),
         program: stops(count),
         ..Change::default()
     };
@@ -336,10 +430,11 @@ fn holding(stops_of: &[usize], withdrawn: usize) -> Tables {
 /// The bytes that [`four_changes`] are written as.
 const FOUR_CHANGES: [&[u8]; 11] = [
     &[5, 0],
-    &[10, 0, 0, 0, 0, 0, 0, 0, 0, 4, 0, 0],
+    // 10 and 40 have version 1, but the withdrawal of 40 has version 0.
+    &[10, 0, 0, 0, 0, 0, 0, 0, 0, 4, 1, 0],
     &[20, 0, 0, 0, 0, 0, 0, 0, 0, 2, 0, 0],
     &[30, 0, 0, 0, 0, 0, 0, 0, 0, 2, 0, 0],
-    &[40, 0, 0, 0, 0, 0, 0, 0, 0, 2, 0, 0],
+    &[40, 0, 0, 0, 0, 0, 0, 0, 0, 2, 1, 0],
     &[40, 0, 0, 0, 0, 0, 0, 0, 1, 0, 0, 0],
     // 10 sets 34 to 7 and 40 to 3.
     &[1, 0, 0, 0, 7, 0, 0, 0, 13, 0, 0, 0, 34, 0, 0, 0],
@@ -366,7 +461,7 @@ fn four_changes_are_written() {
 }
 
 #[test]
-fn only_timestamps_flags_and_programs_are_written() {
+fn only_timestamps_flags_versions_and_programs_are_written() {
     let mut tables = four_changes();
     tables.status[..4].copy_from_slice(&[2, 2, 1, 1]);
     tables.written[0] = 99;
@@ -421,6 +516,7 @@ fn what_is_written_is_taken_in() {
     assert_eq!(filled.timestamps, [1, 2, 3, 4, 5]);
     assert_eq!(filled.lengths, [0, 1, 32, 0, 3]);
     assert_eq!(filled.withdrawn, [0, 0, 0, 1, 1]);
+    assert_eq!(filled.versions, [0, 1, 0, 0, 1]);
 }
 
 /// "a 16-bit count k, 0 to 512": of held changes and withdrawn ones.
@@ -464,7 +560,7 @@ fn a_package_of_65534_bytes_is_written_and_none_of_65538() {
 fn a_package_is_not_written_for_1_then_2_then_12() {
     let mut tables = four_changes();
     assert_eq!(written(6, &tables, 141).0, Err(Refusal::Room));
-    tables.status[0] = 3;
+    tables.versions[0] = 2;
     for length in [0, 141, 142] {
         assert_eq!(
             written(6, &tables, length),

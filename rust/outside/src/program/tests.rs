@@ -1,27 +1,75 @@
 use super::*;
 
+/// Numbers that are no version. The lowest byte of some would be one.
+const NO_VERSIONS: [u16; 7] = [2, 3, 255, 256, 257, 32_768, u16::MAX];
+
 /// The refusal of these instructions as a program, or 0.
+#[track_caller]
 fn refusal_of(instructions: &[Instruction]) -> u8 {
     refusal(&assemble(instructions))
 }
 
+/// The refusal of a program, or 0, which is the same by both versions.
+#[track_caller]
 fn refusal(program: &[u8]) -> u8 {
-    check(program).map_or_else(Malformed::refusal, |()| 0)
+    let [refusal, by_1] = [0, 1].map(|version| refusal_with(version, program));
+    assert_eq!(refusal, by_1);
+    refusal
+}
+
+#[track_caller]
+fn refusal_with(version: u16, program: &[u8]) -> u8 {
+    match check(version, program) {
+        Ok(checked) => {
+            assert_eq!(checked.number(), version);
+            0
+        }
+        Err(malformed) => malformed.refusal(),
+    }
 }
 
 fn assemble(instructions: &[Instruction]) -> Vec<u8> {
     instructions.iter().flat_map(|i| i.to_bytes()).collect()
 }
 
-/// Runs these instructions, which must be well formed, on settings that are 0 but for `given`.
+/// Runs these instructions by version 0. Version 1 must give the same, unless the run comes to a
+/// setting that it has written.
+#[track_caller]
 fn run_on(given: &[(u16, i32)], instructions: &[Instruction]) -> Outcome {
+    let outcome = run_by(Version::Zero, given, instructions);
+    let own_write = [Fault::ReadOfWritten, Fault::WrittenTwice];
+    if !outcome
+        .fault()
+        .is_some_and(|(fault, _)| own_write.contains(&fault))
+    {
+        assert_eq!(run_by(Version::One, given, instructions), outcome);
+    }
+    outcome
+}
+
+/// The same by version 1, where version 0 faults so, at this place.
+#[track_caller]
+fn run_by_1(
+    given: &[(u16, i32)],
+    instructions: &[Instruction],
+    fault: Fault,
+    place: usize,
+) -> Outcome {
+    let outcome = run_by(Version::Zero, given, instructions);
+    assert_eq!(outcome.fault(), Some((fault, place)));
+    run_by(Version::One, given, instructions)
+}
+
+/// Runs these instructions, which must be well formed, on settings that are 0 but for `given`.
+#[track_caller]
+fn run_by(version: Version, given: &[(u16, i32)], instructions: &[Instruction]) -> Outcome {
     let program = assemble(instructions);
-    assert_eq!(check(&program), Ok(()));
+    assert_eq!(check(version.number(), &program), Ok(version));
     let mut settings = [0; SETTINGS];
     for &(setting, value) in given {
         settings[usize::from(setting)] = value;
     }
-    run(&program, &settings)
+    run(version, &program, &settings)
 }
 
 #[track_caller]
@@ -140,6 +188,39 @@ fn refusal_6_comes_before_7() {
     }
     assert_eq!(refusal(&[0xFF; 8]), 7);
     assert_eq!(refusal(&[0xFF; 256]), 7);
+}
+
+#[test]
+fn versions_are_0_and_1() {
+    assert_eq!(Version::default(), Version::Zero);
+    for (version, number) in Version::ALL.into_iter().zip([0, 1]) {
+        assert_eq!(version.number(), number);
+        assert_eq!(Version::from_number(number), Some(version));
+    }
+    for number in 2..=u16::MAX {
+        assert_eq!(Version::from_number(number), None);
+    }
+}
+
+#[test]
+fn a_version_above_1_is_13() {
+    for version in NO_VERSIONS {
+        assert_eq!(refusal_with(version, &[]), 13, "version {version}");
+        assert_eq!(refusal_with(version, &assemble(&EXAMPLES)), 13);
+    }
+}
+
+/// "refusal 13, just after 6" (document 02, R-6), and so before 7.
+#[test]
+fn refusal_13_comes_after_6_and_before_7() {
+    for version in NO_VERSIONS {
+        for length in [1, 7, 9, 255, 257, 264] {
+            assert_eq!(refusal_with(version, &vec![0; length]), 6, "{length} bytes");
+            assert_eq!(refusal_with(version, &vec![0xFF; length]), 6);
+        }
+        assert_eq!(refusal_with(version, &[0xFF; 8]), 13);
+        assert_eq!(refusal_with(version, &[0xFF; 256]), 13);
+    }
 }
 
 #[test]
@@ -367,7 +448,7 @@ fn p11_in_order_of_timestamps() {
     let leaves = |changes: &[&[Instruction]]| {
         let mut settings = [0; SETTINGS];
         for &change in changes {
-            let outcome = run(&assemble(change), &settings);
+            let outcome = run(Version::Zero, &assemble(change), &settings);
             assert_eq!(outcome.fault(), None);
             for write in outcome.writes() {
                 settings[usize::from(write.setting)] = write.value;
@@ -688,25 +769,282 @@ fn a_given_outcome_is_overwritten() {
         ],
     );
     assert_faulted(&outcome, &[(1, 0), (2, 0)], Fault::WrittenTwice, 4);
-    run_into(&assemble(&COPY), &settings, &mut outcome);
+    run_into(Version::Zero, &assemble(&COPY), &settings, &mut outcome);
     assert_completed(&outcome, &[(34, 0)], &[(50, 0)]);
-    run_into(&[], &settings, &mut outcome);
+    run_into(Version::One, &[], &settings, &mut outcome);
     assert_eq!(outcome, Outcome::EMPTY);
 }
 
+/// With what the registers hold before each instruction: here the first of them.
 #[test]
 fn places_are_visited_in_order() {
     let program = assemble(&take(300));
     let mut outcome = Outcome::EMPTY;
-    let mut places_from = |power: i32| {
-        let mut settings = [0; SETTINGS];
-        settings[36] = power;
-        let mut places = Vec::new();
-        run_visiting(&program, &settings, &mut outcome, |place| {
-            places.push(place)
-        });
-        places
-    };
-    assert_eq!(places_from(400), [0, 1, 2, 3, 4, 5]);
-    assert_eq!(places_from(200), [0, 1, 2, 3, 4, 6, 7]);
+    for version in Version::ALL {
+        let mut visited_from = |power: i32| {
+            let mut settings = [0; SETTINGS];
+            settings[36] = power;
+            let (mut places, mut first) = (Vec::new(), Vec::new());
+            run_visiting(version, &program, &settings, &mut outcome, |place, r| {
+                places.push(place);
+                first.push(r[0]);
+            });
+            (places, first)
+        };
+        let (places, first) = visited_from(400);
+        assert_eq!(places, [0, 1, 2, 3, 4, 5]);
+        assert_eq!(first, [0, 400, 400, 100, 100, 100]);
+        let (places, first) = visited_from(200);
+        assert_eq!(places, [0, 1, 2, 3, 4, 6, 7]);
+        assert_eq!(first, [0, 200, 200, -100, -100, -100, -100]);
+    }
+}
+
+// Version 1 (document 02, R-6).
+
+/// "Version 1 reads its own written value, which enters no read list".
+#[test]
+fn version_1_reads_back_what_it_wrote() {
+    // By number and by register, and the other way round.
+    for (write_34, read_34) in [
+        (write(34, 0), read(2, 34)),
+        (write(34, 0), read_indexed(2, 1)),
+        (write_indexed(1, 0), read(2, 34)),
+        (write_indexed(1, 0), read_indexed(2, 1)),
+    ] {
+        let program = [
+            constant(0, 5),
+            constant(1, 34),
+            write_34,
+            read_34,
+            write(50, 2),
+        ];
+        assert_completed(
+            &run_by_1(&[(34, 9)], &program, Fault::ReadOfWritten, 3),
+            &[],
+            &[(34, 5), (50, 5)],
+        );
+    }
+}
+
+/// The read list keeps the value seen before the write.
+#[test]
+fn a_setting_that_was_read_before_the_write_is_read_back_too() {
+    let program = [
+        read(0, 34),
+        constant(1, 1),
+        ins(op::ADD, 0, 0, 1, 0),
+        write(34, 0),
+        read(2, 34),
+        write(50, 2),
+        read(3, 35),
+        write(51, 3),
+    ];
+    assert_completed(
+        &run_by_1(&[(34, 7), (35, 3)], &program, Fault::ReadOfWritten, 4),
+        &[(34, 7), (35, 3)],
+        &[(34, 8), (50, 8), (51, 3)],
+    );
+}
+
+#[test]
+fn what_was_not_written_enters_the_read_list_as_before() {
+    let program = [
+        read(0, 50),
+        write(34, 0),
+        read(1, 34),
+        read(2, 51),
+        read(3, 34),
+        read(4, 50),
+        write(52, 2),
+    ];
+    assert_completed(
+        &run_by_1(&[(50, 3), (51, 4)], &program, Fault::ReadOfWritten, 2),
+        &[(50, 3), (51, 4)],
+        &[(34, 3), (52, 4)],
+    );
+}
+
+/// "a second write replaces the value in its first place in the list."
+#[test]
+fn a_second_write_replaces_the_value_in_its_first_place() {
+    for second in [write(34, 1), write_indexed(3, 1)] {
+        let program = [
+            constant(0, 5),
+            constant(1, 6),
+            constant(3, 34),
+            write(34, 0),
+            write(35, 0),
+            second,
+            write(36, 1),
+        ];
+        assert_completed(
+            &run_by_1(&[], &program, Fault::WrittenTwice, 5),
+            &[],
+            &[(34, 6), (35, 5), (36, 6)],
+        );
+    }
+    // The first is by register.
+    let program = [
+        constant(0, 5),
+        constant(3, 34),
+        write_indexed(3, 0),
+        write(35, 0),
+        write(34, 7),
+    ];
+    assert_completed(
+        &run_by_1(&[], &program, Fault::WrittenTwice, 4),
+        &[],
+        &[(34, 0), (35, 5)],
+    );
+}
+
+#[test]
+fn a_second_write_may_be_of_an_equal_value_and_a_third_may_follow() {
+    let equal = [constant(0, 5), write(34, 0), write(34, 0)];
+    assert_completed(
+        &run_by_1(&[(34, 5)], &equal, Fault::WrittenTwice, 2),
+        &[],
+        &[(34, 5)],
+    );
+    let third = [
+        constant(0, 5),
+        write(35, 7),
+        write(34, 0),
+        write(34, 7),
+        write(35, 0),
+        constant(0, 6),
+        write(34, 0),
+    ];
+    assert_completed(
+        &run_by_1(&[], &third, Fault::WrittenTwice, 3),
+        &[],
+        &[(35, 5), (34, 6)],
+    );
+}
+
+/// What is read back is the last value.
+#[test]
+fn what_was_written_twice_is_read_back() {
+    let program = [
+        constant(0, 5),
+        write(34, 0),
+        read(1, 34),
+        constant(0, 6),
+        write(34, 0),
+        read(2, 34),
+        write(50, 1),
+        write(51, 2),
+    ];
+    assert_completed(
+        &run_by_1(&[(34, 9)], &program, Fault::ReadOfWritten, 2),
+        &[],
+        &[(34, 6), (50, 5), (51, 6)],
+    );
+}
+
+/// The value read back decides, and names settings.
+#[test]
+fn a_value_that_is_read_back_is_one_as_any_other() {
+    let skipping = [
+        constant(0, -1),
+        write(34, 0),
+        read(1, 34),
+        ins(op::SKIP_IF_NEGATIVE, 0, 1, 0, 1),
+        write(50, 0),
+        write(51, 0),
+    ];
+    assert_completed(
+        &run_by_1(&[(34, 9)], &skipping, Fault::ReadOfWritten, 2),
+        &[],
+        &[(34, -1), (51, -1)],
+    );
+    let naming = [
+        constant(0, 50),
+        write(34, 0),
+        read(1, 34),
+        read_indexed(2, 1),
+        write_indexed(1, 7),
+        write(51, 2),
+    ];
+    assert_completed(
+        &run_by_1(&[(34, 9), (50, 8)], &naming, Fault::ReadOfWritten, 2),
+        &[(50, 8)],
+        &[(34, 50), (50, 0), (51, 8)],
+    );
+}
+
+/// As by version 0; earlier reads stay, what was read back is none, and nothing is written.
+#[test]
+fn a_register_that_names_no_setting_faults_by_version_1_too() {
+    for number in [-1, 1024, 65_536 + 34, i32::MIN, i32::MAX] {
+        for faulting in [read_indexed(0, 1), write_indexed(1, 0)] {
+            let program = [
+                read(0, 50),
+                constant(1, number),
+                write(34, 0),
+                read(2, 34),
+                write(34, 2),
+                faulting,
+            ];
+            assert_faulted(
+                &run_by_1(&[(50, 3)], &program, Fault::ReadOfWritten, 3),
+                &[(50, 3)],
+                Fault::NoSuchSetting,
+                5,
+            );
+        }
+        // It was read back.
+        let program = [
+            constant(0, number),
+            write(34, 0),
+            read(1, 34),
+            read_indexed(2, 1),
+        ];
+        assert_faulted(
+            &run_by_1(&[], &program, Fault::ReadOfWritten, 2),
+            &[],
+            Fault::NoSuchSetting,
+            3,
+        );
+    }
+}
+
+/// The lowest and the highest setting, and every place of the list.
+#[test]
+fn every_entry_is_read_back_and_replaced() {
+    let settings: Vec<i32> = (0..15).map(|i| 1023 - 73 * i).chain([0]).collect();
+    for again in 0..16 {
+        let first = settings.iter().map(|&setting| write(setting, 0));
+        let setting = settings[again];
+        let rest = [
+            constant(0, 9),
+            write(setting, 0),
+            read(1, setting),
+            write(500, 1),
+        ];
+        let program: Vec<_> = first.chain(rest).collect();
+        let mut written: Vec<(u16, i32)> = Vec::new();
+        for (index, &setting) in settings.iter().enumerate() {
+            written.push((setting as u16, if index == again { 9 } else { 0 }));
+        }
+        written.push((500, 9));
+        assert_completed(
+            &run_by_1(&[], &program, Fault::WrittenTwice, 17),
+            &[],
+            &written,
+        );
+    }
+}
+
+#[test]
+fn version_1_writes_a_setting_31_times() {
+    let mut program = vec![constant(0, 5)];
+    program.extend((1..31).map(|_| write(34, 0)));
+    program.push(write(34, 1));
+    assert_completed(
+        &run_by_1(&[], &program, Fault::WrittenTwice, 2),
+        &[],
+        &[(34, 0)],
+    );
 }

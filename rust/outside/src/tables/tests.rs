@@ -49,6 +49,7 @@ fn tables_have_the_lengths_that_document_01_gives() {
     assert_eq!(tables.programs.len(), 768);
     assert_eq!(tables.seen.len(), 96);
     assert_eq!(tables.view.len(), 1024);
+    assert_eq!(tables.versions.len(), 3);
     assert!(check_lengths(3, &tables));
     assert!(!check_lengths(2, &tables));
     assert!(!check_lengths(4, &tables));
@@ -66,9 +67,9 @@ fn every_table_has_exactly_its_length() {
     }
     let resizes = resize! {
         held timestamps order status withdrawn lengths programs reads writes sources seen targets
-        written view
+        written view versions
     };
-    assert_eq!(resizes.len(), 14);
+    assert_eq!(resizes.len(), 15);
     for (name, resize) in resizes {
         for (length, right) in [
             ((|length| length) as fn(usize) -> usize, true),
@@ -252,6 +253,31 @@ fn status_is_0_to_2_and_the_flag_0_or_1() {
     }
 }
 
+/// "in form only with the values named" (document 02, R-6): 0 and 1.
+#[test]
+fn the_version_of_a_held_place_is_0_or_1() {
+    for place in 0..4 {
+        for number in [0, 1] {
+            assert!(in_form_with(|t| t.versions[place] = number), "{number}");
+        }
+        for number in [2, 3, 255, 256, 257, u16::MAX] {
+            assert!(!in_form_with(|t| t.versions[place] = number), "{number}");
+        }
+    }
+    for status in [NEW, VALID, INVALID] {
+        for withdrawn in [0, 1] {
+            let with = |version| Change {
+                status,
+                withdrawn,
+                version,
+                ..change()
+            };
+            assert!(change_alone_in_form(with(1)));
+            assert!(!change_alone_in_form(with(2)));
+        }
+    }
+}
+
 #[test]
 fn counts_above_32_are_not_in_form() {
     for count in [33, 64, 256, 288, u16::MAX] {
@@ -333,6 +359,9 @@ fn slots_of_unused_places_are_0() {
         assert!(!in_form_with(|t| t.status[place] = VALID));
         assert!(!in_form_with(|t| t.withdrawn[place] = 1));
         assert!(!in_form_with(|t| t.lengths[place] = 1));
+        for number in [1, 2, 256, u16::MAX] {
+            assert!(!in_form_with(|t| t.versions[place] = number), "{number}");
+        }
         assert!(!in_form_with(|t| t.reads[place] = 1));
         assert!(!in_form_with(|t| t.writes[place] = 1));
         for index in [0, 255] {

@@ -1,6 +1,7 @@
 //! The declarations of this crate, of the C header and of the library's source are one.
 
 use super::DECLARED;
+use crate::answers::Refusal;
 use std::fs;
 use std::path::Path;
 
@@ -180,4 +181,23 @@ fn crate_declares_what_the_header_declares() {
         }
         assert_eq!(header, declared);
     }
+}
+
+/// Names and numbers, both in checking order.
+#[test]
+fn header_has_the_refusals_of_this_crate() {
+    let header = read("include/tolbezun.h");
+    let (_, refusals) = header.split_once("enum tolbezun_refusal {").expect("it");
+    let (refusals, _) = refusals.split_once("};").expect("its end");
+    let refusal = |line: &str| {
+        let (name, rest) = line.trim().strip_prefix("TOLBEZUN_")?.split_once(" = ")?;
+        let number = rest.split(|c: char| !c.is_ascii_digit()).next()?;
+        Some((name.replace('_', "").to_lowercase(), number.to_owned()))
+    };
+    let declared: Vec<_> = refusals.lines().filter_map(refusal).collect();
+    let expected = Refusal::ALL.map(|refusal| {
+        let name = format!("{refusal:?}").to_lowercase();
+        (name, refusal.number().to_string())
+    });
+    assert_eq!(declared, expected);
 }

@@ -7,7 +7,7 @@ use mir.Facts.{toZ-ofZ}
 use Rattle.machine.specs.declared.Instruction.{Instruction}
 use Rattle.machine.specs.Settings.{valueIn}
 use Rattle.machine.specs.Run.{effect, wanted}
-use Rattle.machine.specs.Instruction.{instructionAt}
+use Rattle.machine.specs.Instruction.{instructionAt, code}
 use Rattle.run_record.specs.Record.{lists}
 use Rattle.bytecode.proofs.Numbers.{read}
 use Rattle.interpreter.proofs.Loop.{operands, performable, Reached, ready, begins, ends, goes-on, has-ended}
@@ -15,11 +15,11 @@ use Rattle.interpreter.proofs.run.run_program.Statement.{statement}
 use Rattle.interpreter.proofs.run.run_program.Tie as tie
 
 abbrev Inv-loop : tie.InvT-loop
-Inv-loop program values sources₀ seen₀ targets₀ written₀ count run₀ place₀ sources seen targets written run place =
-    Reached (valueIn values) program run (lists sources seen targets written) × (run .place ≡ place)
+Inv-loop version program values sources₀ seen₀ targets₀ written₀ count run₀ place₀ sources seen targets written run place =
+    Reached (valueIn values) (code version program) run (lists sources seen targets written) × (run .place ≡ place)
 
 abbrev μ-loop : tie.MeasureT-loop
-μ-loop program values sources₀ seen₀ targets₀ written₀ count run₀ place₀ sources seen targets written run place = count - place
+μ-loop version program values sources₀ seen₀ targets₀ written₀ count run₀ place₀ sources seen targets written run place = count - place
 
 loop-holds : tie.Need-loop-holds Inv-loop μ-loop
 loop-holds c = let s = c .before .before in rw (c .new .ensures) (begins _ _ (s .pre .0) (s .pre .2), refl)

@@ -35,7 +35,7 @@ returns c =
     then (p7 .pick7 .ensures, p7 .before .pick-arg7 .given)
     then (c .pick8 .ensures, c .before .pick-arg8 .given)
     then tt) in
-    λ i. record { registers = set i; place = r .place; reads = r .reads; writes = r .writes; state = r .state }
+    λ i. record { version = r .version; registers = set i; place = r .place; reads = r .reads; writes = r .writes; state = r .state }
 
 pub assign-spec : {M : Type 1} → statement M
 assign-spec =

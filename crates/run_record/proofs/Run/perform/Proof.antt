@@ -23,8 +23,8 @@ advance-requires c κs = rw (c .assign .ensures) (omega arith)
 
 load-requires : tie.Need-load-requires
 load-requires c κs =
-    let s = c .before .before .before .before .before .before in
-    (s .pre .0, rw (c .before .before .before .before .e2 .given .1) at (s .pre .1))
+    let s = c .before .before .before .before .before .before .before in
+    (s .pre .0, rw (c .before .before .before .before .before .e2 .given .1) at (s .pre .1), s .pre .2)
 
 -- the distance that is passed over, at the arm of a skip
 abbrev distance : tie.After-known-told4 → ℤ
@@ -59,10 +59,10 @@ returns-2 c =
 
 returns-3 : tie.Need-returns-3
 returns-3 c =
-    let k = c .before .before .before .before in
+    let k = c .before .before .before .before .before in
     let s = k .before .before .before in
     rw (k .before .e2 .given .1, ← toZ-ofZ w32 (k .before .e2 .given .0 .1 .0) (sfits-of (k .known-told2 .given .1 .0 .1)), ← toZ-ofZ w32 _ (s .fits .v))
-    (c .load .ensures _ (s .pre .2))
+    (c .load .ensures)
 
 returns-4 : tie.Need-returns-4
 returns-4 c =

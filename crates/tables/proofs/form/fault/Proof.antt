@@ -13,10 +13,10 @@ use Rattle.tables.proofs.form.fault.Tie as tie
 abbrev lent : tie.Start → Tables
 lent s =
     let a = s .args in
-    tables (a .held .now) (a .timestamps .now) (a .order .now) (a .status .now) (a .withdrawn .now) (a .lengths .now) (a .programs .now) (a .reads .now) (a .writes .now) (a .sources .now) (a .seen .now) (a .targets .now) (a .written .now) (a .view .now)
+    tables (a .held .now) (a .timestamps .now) (a .order .now) (a .status .now) (a .withdrawn .now) (a .lengths .now) (a .programs .now) (a .reads .now) (a .writes .now) (a .sources .now) (a .seen .now) (a .targets .now) (a .written .now) (a .view .now) (a .versions .now)
 
 abbrev entry : tie.After-lengths-fit → tie.Start
-entry c = c .before .before .before .before .before .before .before .before .before .before .before .before
+entry c = c .before .before .before .before .before .before .before .before .before .before .before .before .before
 
 returns : tie.Need-returns
 returns c = lengths-wrong _ (lent (entry (c .before))) (sym (c .before .lengths-fit .ensures) ∙ not-true _ (c .if1 .taken))
@@ -80,7 +80,7 @@ fault-spec =
     returns
     (λ c κs. lengths-of _ _ (right c) .held)
     returns-2
-    (λ c κs. let g = fits c in omega (arith, c .if2 .left, g .timestamps, g .status, g .withdrawn, g .reads, g .writes))
+    (λ c κs. let g = fits c in omega (arith, c .if2 .left, g .timestamps, g .status, g .withdrawn, g .reads, g .writes, g .versions))
     (λ c κs. let s = from-heads c in omega (arith, s .if2 .left, fits s .order))
     (λ c κs. let s = from-order c in let g = fits s in omega (arith, s .if2 .left, g .capacity, g .lengths, g .programs))
     (λ c κs. let s = from-programs c in let g = fits s in omega (arith, s .if2 .left, g .capacity, g .reads, g .sources, g .seen))

@@ -58,8 +58,8 @@ fn take_in(rows: &Rows, name: &str, change: &Change, others: &[Change]) {
     let (taken, _) = rows.row(
         name,
         &drained(rows.n, others),
-        |n, tables| proved::take_in(n, tables, *timestamp, program),
-        |n, tables| intake::take_in(n, tables, *timestamp, program),
+        |n, tables| proved::take_in(n, tables, *timestamp, 0, program),
+        |n, tables| intake::take_in(n, tables, *timestamp, 0, program),
     );
     assert_eq!(taken, Taken::Done);
 }

@@ -5,6 +5,7 @@ use comparison::proved::calls as proved;
 use outside::calls::Refusal;
 use outside::checker::{self, TOTALS};
 use outside::package::{lay_out, Entry, ANSWERS, DONE};
+use outside::program::Version;
 use std::iter;
 use tolbezun::{program, Instruction, Tables, MAX_CAPACITY, SETTINGS};
 
@@ -26,7 +27,7 @@ pub const FEW: usize = 64;
 /// A setting that every [`long`] change reads and none writes.
 pub const READ_BY_LONG: usize = 527;
 
-/// A change.
+/// A change of version 0.
 pub struct Change {
     pub timestamp: u64,
     pub program: Vec<u8>,
@@ -53,6 +54,7 @@ pub fn changes(
 pub fn package(changes: &[Change]) -> Vec<u8> {
     let entry = |change: &Change| Entry::Change {
         timestamp: change.timestamp,
+        version: Version::Zero,
         program: change.program.clone(),
     };
     lay_out(&changes.iter().map(entry).collect::<Vec<_>>())

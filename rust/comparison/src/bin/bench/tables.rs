@@ -9,7 +9,7 @@ macro_rules! with_tables {
     ($carry_out:ident($($argument:ident),*)) => {
         $carry_out! {
             ($($argument),*) held timestamps order status withdrawn length programs read_count
-            write_count read_settings seen_values write_settings written_values view
+            write_count read_settings seen_values write_settings written_values view version
         }
     };
 }
