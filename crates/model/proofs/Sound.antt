@@ -65,6 +65,12 @@ sound-at [] i a h = absurd (omega arith)
 sound-at (c ∷ changes) zero a h = a .0
 sound-at (c ∷ changes) (suc i) a h = sound-at changes i (a .1) (omega arith)
 
+-- what holds of sound changes, and of what stands at a place that is not held, holds at every place
+pub at-any-place : (P : Change → Type 0) → P blank → ((c : Change) → ChangeSound c → P c) → (changes : List Change) (i : ℕ) → AllSound changes → P (getD changes i blank)
+at-any-place P b h [] i a = b
+at-any-place P b h (c ∷ changes) zero a = h c (a .0)
+at-any-place P b h (c ∷ changes) (suc i) a = at-any-place P b h changes i (a .1)
+
 pub all-sound : (changes : List Change) → ((i : ℕ) → i < length changes → ChangeSound (getD changes i blank)) → AllSound changes
 all-sound [] h = tt
 all-sound (c ∷ changes) h = (h 0 (omega arith), all-sound changes (λ i q. h (suc i) (omega arith)))

@@ -12,10 +12,10 @@ use Rattle.model.specs.History.{Change, change, timestamp, program, withdrawn, 
 use Rattle.model.specs.Cabinet.{blank}
 use Rattle.model.specs.Tables.{Tables, flagNumber, heldCount, programAt, decode}
 use Rattle.model.specs.Form.{Formed}
-use Rattle.model.specs.Sound.{ChangeSound, AllSound}
 use Rattle.model.specs.Package.{entryBytes, itemEntry, itemBody, joined, packageOf, numberBytes}
 use Rattle.model.specs.Book.{Book, booked, bookedAs, bookOf, takings, withdrawals, bookedItems}
 use Rattle.model.specs.Calls.{heldItems}
+use Rattle.model.proofs.Sound.{at-any-place}
 use Rattle.model.proofs.Tables.{withdrawn-at, length-at, version-at, program-back}
 use Rattle.model.proofs.Packing.{length-entries}
 use Rattle.model.proofs.Form.{facts}
@@ -76,12 +76,6 @@ takings-length (booked t p w ∷ book) = ap suc (takings-length book)
 flag-small : (w : Bool) → flagNumber w ≤ 1
 flag-small true = omega arith
 flag-small false = omega arith
-
--- what holds of sound changes, and of what stands at a place that is not held, holds at every place
-at-any-place : (P : Change → Type 0) → P blank → ((c : Change) → ChangeSound c → P c) → (changes : List Change) (i : ℕ) → AllSound changes → P (getD changes i blank)
-at-any-place P b h [] i a = b
-at-any-place P b h (c ∷ changes) zero a = h c (a .0)
-at-any-place P b h (c ∷ changes) (suc i) a = at-any-place P b h changes i (a .1)
 
 module _ {n : ℕ} {T : Tables} (g : Formed n T) where
   abbrev count : ℕ

@@ -16,19 +16,14 @@ use Rattle.model.specs.History.{Change, timestamp, lists, History, afterAll, as
 use Rattle.model.specs.Cabinet.{blank, historyOf, find}
 use Rattle.model.specs.Tables.{Tables, heldCount, writesAt, decode, listIn}
 use Rattle.model.specs.Form.{holds, distinctSettings, timestampOf, Formed}
-use Rattle.model.specs.Sound.{AllSound}
 use Rattle.model.proofs.Figure.{NoneBelow}
+use Rattle.model.proofs.Sound.{at-any-place}
 use Rattle.model.proofs.Order.{changesAt-length, changesAt-get}
 use Rattle.model.proofs.Tables.{held-count, timestamp-at, order-at, writes-at, writes-back}
 use Rattle.model.proofs.Form.{facts}
 use Rattle.search.specs.Searches.{PlacesWithin, WriteLists, OfSettings, rankOf, positionOf, previousWrite}
 use Rattle.search.proofs.Steps.{rank-within}
 use Rattle.search.proofs.Split.{Split, below-up-to, none-below-from, find-here, find-nowhere, after-next, split-as-of}
-
-short-writes : (changes : List Change) (i : ℕ) → AllSound changes → length (lists (getD changes i blank) .writes) ≤ 32
-short-writes [] i a = omega arith
-short-writes (c ∷ changes) zero a = a .0 .writes .short
-short-writes (c ∷ changes) (suc i) a = short-writes changes i (a .1)
 
 -- a place's settings that the test of form has passed
 pub tested-settings : (l : List ℕ) → distinctSettings l ≡ true → OfSettings l
@@ -77,7 +72,7 @@ module _ {n : ℕ} {T : Tables} (g : Formed n T) where
         capacity = omega (arith, facts g .sizes .writes, facts g .sizes .capacity);
         target-slots = omega (arith, facts g .sizes .writes, facts g .sizes .targets);
         value-slots = omega (arith, facts g .sizes .writes, facts g .sizes .written);
-        short = λ i. rw (← (facts g .laid), writes-at n (decode T) i) (short-writes (decode T .changes) i (facts g .sound .each));
+        short = λ i. rw (← (facts g .laid), writes-at n (decode T) i) (at-any-place (λ c. length (lists c .writes) ≤ 32) (omega arith) (λ c s. s .writes .short) (decode T .changes) i (facts g .sound .each));
       }
 
   -- ---- the tables and the history
