@@ -17,14 +17,14 @@
 #define N 128
 static uint16_t held[1], order[N], status[N], withdrawn[N], length[N], read_count[N], write_count[N];
 static uint16_t read_settings[32 * N], write_settings[32 * N], versions[N];
-static uint64_t timestamps[N];
+static uint64_t timestamps[N], cutoff[1];
 static uint8_t programs[256 * N];
-static int32_t seen_values[32 * N], written_values[32 * N], view[1024];
+static int32_t seen_values[32 * N], written_values[32 * N], view[1024], kept[1024];
 
 #define TABLES                                                                                      \
     N, held, 1, timestamps, N, order, N, status, N, withdrawn, N, length, N, programs, 256 * N,     \
         read_count, N, write_count, N, read_settings, 32 * N, seen_values, 32 * N, write_settings,  \
-        32 * N, written_values, 32 * N, view, 1024, versions, N
+        32 * N, written_values, 32 * N, view, 1024, versions, N, cutoff, 1, kept, 1024
 
 /* r0 = 400; power left = r0 */
 static const uint8_t budget_400[] = {

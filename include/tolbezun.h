@@ -29,6 +29,8 @@
  *   written_values  32 x N entries: the values written
  *   view            1,024 entries: the current value of each setting
  *   versions        N entries: the version of each change, 0 or 1, which says by what rules it runs
+ *   cutoff          1 entry: the cutoff, 0 to 2^64 - 2. No change stamped below it is held or taken in
+ *   kept            1,024 entries: the value of each setting as of the cutoff
  *
  * Set up fills the tables; after that only these functions write them. A refused call alters nothing.
  */
@@ -48,6 +50,7 @@ enum tolbezun_refusal {
     TOLBEZUN_FORM = 2,           /* the tables are not in form */
     TOLBEZUN_PACKAGE = 3,        /* the package breaks its layout or length */
     TOLBEZUN_TIMESTAMP = 4,      /* the timestamp is 0 or 2^64 - 1; value as of allows 2^64 - 1 */
+    TOLBEZUN_CUTOFF = 14,        /* the timestamp is below the cutoff */
     TOLBEZUN_SETTING = 5,        /* the setting number is above 1,023 */
     TOLBEZUN_PROGRAM_LENGTH = 6, /* the program is over 256 bytes or no multiple of 8 */
     TOLBEZUN_VERSION = 13,       /* the version is above 1 */
@@ -56,11 +59,12 @@ enum tolbezun_refusal {
     TOLBEZUN_FULL = 9,           /* the held count equals n and the timestamp is not held */
     TOLBEZUN_NOT_HELD = 10,      /* the timestamp is not held */
     TOLBEZUN_WITHDRAWN = 11,     /* the change is withdrawn already */
+    TOLBEZUN_UNSETTLED = 15,     /* a New or Invalid change is stamped below the new cutoff */
     TOLBEZUN_ROOM = 12           /* the package would pass its own limits or the lent slice */
 };
 
 /*
- * Sets up the tables: every slot 0, the view at the start values.
+ * Sets up the tables: every slot 0, the view and the kept values at the start values.
  *
  * Alters every table. Answers 0 done or refusal 1.
  */
@@ -80,12 +84,14 @@ uint8_t tolbezun_set_up(
     uint16_t *write_settings, size_t write_settings_len,
     int32_t *written_values, size_t written_values_len,
     int32_t *view, size_t view_len,
-    uint16_t *versions, size_t versions_len);
+    uint16_t *versions, size_t versions_len,
+    uint64_t *cutoff, size_t cutoff_len,
+    int32_t *kept, size_t kept_len);
 
 /*
  * Takes in a change: the next place, New, not withdrawn, lists empty.
  *
- * timestamp       1 to 2^64 - 2
+ * timestamp       1 to 2^64 - 2, not below the cutoff
  * version         0 or 1: the rules that the program runs by. A run of version 0 faults where it reads
  *                 a setting that it has written, and where it writes one twice. A run of version 1
  *                 reads the value that it has written, which enters no read list, and a second write
@@ -93,8 +99,8 @@ uint8_t tolbezun_set_up(
  * program         its bytes, 8 an instruction; program_len is their number, 0 to 256
  *
  * Alters held, timestamps, order, length, programs and versions. Answers 0 done, 255 already held (the
- * same timestamp with the same version and program; nothing is altered) or refusal 1, 2, 4, 6, 13, 7,
- * 8 or 9.
+ * same timestamp with the same version and program; nothing is altered) or refusal 1, 2, 4, 14, 6, 13,
+ * 7, 8 or 9.
  */
 uint8_t tolbezun_take_in(
     size_t n,
@@ -113,6 +119,8 @@ uint8_t tolbezun_take_in(
     const int32_t *written_values, size_t written_values_len,
     const int32_t *view, size_t view_len,
     uint16_t *versions, size_t versions_len,
+    const uint64_t *cutoff, size_t cutoff_len,
+    const int32_t *kept, size_t kept_len,
     uint64_t timestamp,
     uint16_t version,
     const uint8_t *program, size_t program_len);
@@ -122,7 +130,7 @@ uint8_t tolbezun_take_in(
  *
  * timestamp       of a held change that is not withdrawn
  *
- * Alters status and withdrawn. Answers 0 done or refusal 1, 2, 4, 10 or 11.
+ * Alters status and withdrawn. Answers 0 done or refusal 1, 2, 4, 14, 10 or 11.
  */
 uint8_t tolbezun_withdraw(
     size_t n,
@@ -141,6 +149,8 @@ uint8_t tolbezun_withdraw(
     const int32_t *written_values, size_t written_values_len,
     const int32_t *view, size_t view_len,
     const uint16_t *versions, size_t versions_len,
+    const uint64_t *cutoff, size_t cutoff_len,
+    const int32_t *kept, size_t kept_len,
     uint64_t timestamp);
 
 /*
@@ -173,6 +183,8 @@ uint8_t tolbezun_take_in_package(
     const int32_t *written_values, size_t written_values_len,
     const int32_t *view, size_t view_len,
     uint16_t *versions, size_t versions_len,
+    const uint64_t *cutoff, size_t cutoff_len,
+    const int32_t *kept, size_t kept_len,
     const uint8_t *package, size_t package_len,
     uint8_t *answers, size_t answers_len);
 
@@ -203,6 +215,8 @@ uint8_t tolbezun_turn(
     int32_t *written_values, size_t written_values_len,
     int32_t *view, size_t view_len,
     const uint16_t *versions, size_t versions_len,
+    const uint64_t *cutoff, size_t cutoff_len,
+    const int32_t *kept, size_t kept_len,
     uint64_t *values, size_t values_len);
 
 /*
@@ -231,7 +245,40 @@ uint8_t tolbezun_drain(
     int32_t *written_values, size_t written_values_len,
     int32_t *view, size_t view_len,
     const uint16_t *versions, size_t versions_len,
+    const uint64_t *cutoff, size_t cutoff_len,
+    const int32_t *kept, size_t kept_len,
     uint16_t *totals, size_t totals_len);
+
+/*
+ * Drops every change stamped below a timestamp, the new cutoff, and keeps the value of each setting as
+ * of it. The other changes close up in order of arrival, and freed places, with 0 in every slot, take
+ * new changes.
+ *
+ * timestamp       the new cutoff, 1 to 2^64 - 2, not below the one there is; with that one again nothing
+ *                 is altered
+ *
+ * Alters every table but view. Answers 0 done or refusal 1, 2, 4, 14 or 15.
+ */
+uint8_t tolbezun_cutoff(
+    size_t n,
+    uint16_t *held, size_t held_len,
+    uint64_t *timestamps, size_t timestamps_len,
+    uint16_t *order, size_t order_len,
+    uint16_t *status, size_t status_len,
+    uint16_t *withdrawn, size_t withdrawn_len,
+    uint16_t *length, size_t length_len,
+    uint8_t *programs, size_t programs_len,
+    uint16_t *read_count, size_t read_count_len,
+    uint16_t *write_count, size_t write_count_len,
+    uint16_t *read_settings, size_t read_settings_len,
+    int32_t *seen_values, size_t seen_values_len,
+    uint16_t *write_settings, size_t write_settings_len,
+    int32_t *written_values, size_t written_values_len,
+    const int32_t *view, size_t view_len,
+    uint16_t *versions, size_t versions_len,
+    uint64_t *cutoff, size_t cutoff_len,
+    int32_t *kept, size_t kept_len,
+    uint64_t timestamp);
 
 /*
  * The current value of a setting, from the view.
@@ -257,15 +304,17 @@ int64_t tolbezun_current_value(
     const int32_t *written_values, size_t written_values_len,
     const int32_t *view, size_t view_len,
     const uint16_t *versions, size_t versions_len,
+    const uint64_t *cutoff, size_t cutoff_len,
+    const int32_t *kept, size_t kept_len,
     size_t setting);
 
 /*
- * The value of a setting as of a timestamp: of the highest write stamped below it, else the start.
+ * The value of a setting as of a timestamp: of the highest write stamped below it, else the kept value.
  *
- * timestamp       1 to 2^64 - 1
+ * timestamp       1 to 2^64 - 1, not below the cutoff
  * setting         0 to 1,023
  *
- * Alters nothing. Answers the value, -2^31 to 2^31 - 1, or 4,294,967,296 + refusal 1, 2, 4 or 5.
+ * Alters nothing. Answers the value, -2^31 to 2^31 - 1, or 4,294,967,296 + refusal 1, 2, 4, 14 or 5.
  */
 int64_t tolbezun_value_as_of(
     size_t n,
@@ -284,6 +333,8 @@ int64_t tolbezun_value_as_of(
     const int32_t *written_values, size_t written_values_len,
     const int32_t *view, size_t view_len,
     const uint16_t *versions, size_t versions_len,
+    const uint64_t *cutoff, size_t cutoff_len,
+    const int32_t *kept, size_t kept_len,
     uint64_t timestamp,
     size_t setting);
 
@@ -293,7 +344,7 @@ int64_t tolbezun_value_as_of(
  * timestamp       of a held change
  *
  * Alters nothing. Answers status + 256 x flag (status 0 New, 1 Valid, 2 Invalid; flag 1 withdrawn, else
- * 0), or 65,536 + refusal 1, 2, 4 or 10.
+ * 0), or 65,536 + refusal 1, 2, 4, 14 or 10.
  */
 uint32_t tolbezun_standing(
     size_t n,
@@ -312,10 +363,13 @@ uint32_t tolbezun_standing(
     const int32_t *written_values, size_t written_values_len,
     const int32_t *view, size_t view_len,
     const uint16_t *versions, size_t versions_len,
+    const uint64_t *cutoff, size_t cutoff_len,
+    const int32_t *kept, size_t kept_len,
     uint64_t timestamp);
 
 /*
- * Runs all held changes in timestamp order, withdrawn ones passed over, on settings of its own.
+ * Runs all held changes in timestamp order, withdrawn ones passed over, on settings of its own, which
+ * begin at the kept values.
  *
  * settings        1,024 entries, which get what the changes leave
  *
@@ -338,13 +392,15 @@ uint8_t tolbezun_plain_run(
     const int32_t *written_values, size_t written_values_len,
     const int32_t *view, size_t view_len,
     const uint16_t *versions, size_t versions_len,
+    const uint64_t *cutoff, size_t cutoff_len,
+    const int32_t *kept, size_t kept_len,
     int32_t *settings, size_t settings_len);
 
 /*
  * Writes all held changes by rising timestamp, each with its version, then the withdrawals of the
- * withdrawn ones by rising timestamp, as one package, in the layout that take in a package reads. Taken
- * into tables just set up that have room for the changes, and drained, it gives what these tables have
- * once they are drained.
+ * withdrawn ones by rising timestamp, as one package, in the layout that take in a package reads. Where
+ * the cutoff is 0, the package, taken into tables just set up that have room for the changes, and
+ * drained, gives what these tables have once they are drained. It has no kept values.
  *
  * package         its first bytes get the package, later ones keep their contents; package_len is
  *                 their number, which may be any: a package has at most 65,535 bytes
@@ -370,6 +426,8 @@ uint32_t tolbezun_package_out(
     const int32_t *written_values, size_t written_values_len,
     const int32_t *view, size_t view_len,
     const uint16_t *versions, size_t versions_len,
+    const uint64_t *cutoff, size_t cutoff_len,
+    const int32_t *kept, size_t kept_len,
     uint8_t *package, size_t package_len);
 
 /*

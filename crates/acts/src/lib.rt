@@ -36,14 +36,15 @@ pub fn decide(
     writes: &[u16],
     targets: &[u16],
     written: &[i32],
+    kept: &[i32],
     before: &mut [i32; 1024],
     after: &mut [i32; 1024],
     known: &mut [u8; 1024],
 ) -> Act
     requires { ⌜ Decidable k (now order) (now status) (now withdrawn) (now reads) (now sources) (now seen) (length (now writes))
-        × Lookable k (now order) (now writes) (now targets) (now written) (now known) (now before) (now after) ⌝ }
+        × Lookable k (now order) (now writes) (now targets) (now written) (now kept) (now known) (now before) (now after) ⌝ }
     ensures { λ r. ⌜ (let place = getD (now (order .entry)) k 0 in
-        let env = valuesBelow (now (order .entry)) (now (writes .entry)) (now (targets .entry)) (now (written .entry)) k in
+        let env = valuesBelow (now (order .entry)) (now (writes .entry)) (now (targets .entry)) (now (written .entry)) (now (kept .entry)) k in
         (r ≡ actOf (getD (now (withdrawn .entry)) place 0) (getD (now (status .entry)) place 0)
         (allHold (listIn (now (reads .entry)) (now (sources .entry)) (now (seen .entry)) place) env))
         × Looked env (now (known .entry)) (now (known .exit)) (now (before .exit)) (now (after .exit))) ⌝ }
@@ -65,6 +66,7 @@ pub fn decide(
         writes,
         targets,
         written,
+        kept,
         before,
         after,
         known,
@@ -84,6 +86,7 @@ fn run_change(
     writes: &[u16],
     targets: &[u16],
     written: &[i32],
+    kept: &[i32],
     before: &mut [i32; 1024],
     after: &mut [i32; 1024],
     known: &mut [u8; 1024],
@@ -94,8 +97,8 @@ fn run_change(
 ) -> Run
     requires { ⌜ Runnable k (now order) (now lengths) (now programs)
         × Sized (lists (now «new_sources») (now «new_seen») (now «new_targets») (now «new_written»))
-        × Lookable k (now order) (now writes) (now targets) (now written) (now known) (now before) (now after) ⌝ }
-    ensures { λ r. ⌜ (let env = valuesBelow (now (order .entry)) (now (writes .entry)) (now (targets .entry)) (now (written .entry)) k in
+        × Lookable k (now order) (now writes) (now targets) (now written) (now kept) (now known) (now before) (now after) ⌝ }
+    ensures { λ r. ⌜ (let env = valuesBelow (now (order .entry)) (now (writes .entry)) (now (targets .entry)) (now (written .entry)) (now (kept .entry)) k in
         Ran r
         (lists (now («new_sources» .exit)) (now («new_seen» .exit)) (now («new_targets» .exit)) (now («new_written» .exit)))
         (run env (code version (programIn (now (lengths .entry)) (now (programs .entry)) (getD (now (order .entry)) k 0))))
@@ -112,6 +115,7 @@ fn run_change(
         writes,
         targets,
         written,
+        kept,
         before,
         after,
         known,
@@ -133,6 +137,7 @@ pub fn new_lists(
     writes: &[u16],
     targets: &[u16],
     written: &[i32],
+    kept: &[i32],
     before: &mut [i32; 1024],
     after: &mut [i32; 1024],
     known: &mut [u8; 1024],
@@ -143,8 +148,8 @@ pub fn new_lists(
 ) -> Run
     requires { ⌜ Runnable k (now order) (now lengths) (now programs)
         × Sized (lists (now «new_sources») (now «new_seen») (now «new_targets») (now «new_written»))
-        × Lookable k (now order) (now writes) (now targets) (now written) (now known) (now before) (now after) ⌝ }
-    ensures { λ r. ⌜ (let env = valuesBelow (now (order .entry)) (now (writes .entry)) (now (targets .entry)) (now (written .entry)) k in
+        × Lookable k (now order) (now writes) (now targets) (now written) (now kept) (now known) (now before) (now after) ⌝ }
+    ensures { λ r. ⌜ (let env = valuesBelow (now (order .entry)) (now (writes .entry)) (now (targets .entry)) (now (written .entry)) (now (kept .entry)) k in
         Made act r
         (lists (now («new_sources» .exit)) (now («new_seen» .exit)) (now («new_targets» .exit)) (now («new_written» .exit)))
         (run env (code version (programIn (now (lengths .entry)) (now (programs .entry)) (getD (now (order .entry)) k 0))))
@@ -160,6 +165,7 @@ pub fn new_lists(
             writes,
             targets,
             written,
+            kept,
             before,
             after,
             known,
@@ -184,6 +190,7 @@ fn alter_writes(
     writes: &[u16],
     targets: &[u16],
     written: &[i32],
+    kept: &[i32],
     before: &mut [i32; 1024],
     after: &mut [i32; 1024],
     known: &mut [u8; 1024],
@@ -191,8 +198,8 @@ fn alter_writes(
 ) -> usize
     requires { ⌜ BothWrites (now «old_targets») (now «old_written») (now «new_targets») (now «new_written»)
         × (length (now changed) ≡ 64)
-        × Lookable k (now order) (now writes) (now targets) (now written) (now known) (now before) (now after) ⌝ }
-    ensures { λ r. ⌜ (let env = valuesBelow (now (order .entry)) (now (writes .entry)) (now (targets .entry)) (now (written .entry)) k in
+        × Lookable k (now order) (now writes) (now targets) (now written) (now kept) (now known) (now before) (now after) ⌝ }
+    ensures { λ r. ⌜ (let env = valuesBelow (now (order .entry)) (now (writes .entry)) (now (targets .entry)) (now (written .entry)) (now (kept .entry)) k in
         let old = entries (length (now («old_targets» .entry))) (now («old_targets» .entry)) (now («old_written» .entry)) in
         let new = entries (length (now («new_targets» .entry))) (now («new_targets» .entry)) (now («new_written» .entry)) in
         Altered old new env (now (known .entry)) (now (known .exit)) (now (before .exit)) (now (after .exit)) r (now (changed .exit))) ⌝ }
@@ -204,6 +211,7 @@ fn alter_writes(
         writes,
         targets,
         written,
+        kept,
         before,
         after,
         known,
@@ -215,6 +223,7 @@ fn alter_writes(
         writes,
         targets,
         written,
+        kept,
         before,
         after,
         known,
@@ -232,6 +241,7 @@ pub fn alter(
     writes: &[u16],
     targets: &[u16],
     written: &[i32],
+    kept: &[i32],
     size: usize,
     new_targets: &[u16],
     new_written: &[i32],
@@ -242,8 +252,8 @@ pub fn alter(
 ) -> usize
     requires { ⌜ Alterable k (now order) (now writes) (now targets) size (now «new_targets») (now «new_written»)
         × (length (now changed) ≡ 64)
-        × Lookable k (now order) (now writes) (now targets) (now written) (now known) (now before) (now after) ⌝ }
-    ensures { λ r. ⌜ (let env = valuesBelow (now (order .entry)) (now (writes .entry)) (now (targets .entry)) (now (written .entry)) k in
+        × Lookable k (now order) (now writes) (now targets) (now written) (now kept) (now known) (now before) (now after) ⌝ }
+    ensures { λ r. ⌜ (let env = valuesBelow (now (order .entry)) (now (writes .entry)) (now (targets .entry)) (now (written .entry)) (now (kept .entry)) k in
         let old = listIn (now (writes .entry)) (now (targets .entry)) (now (written .entry)) (getD (now (order .entry)) k 0) in
         let new = entries size (now («new_targets» .entry)) (now («new_written» .entry)) in
         Altered old new env (now (known .entry)) (now (known .exit)) (now (before .exit)) (now (after .exit)) r (now (changed .exit))) ⌝ }
@@ -261,6 +271,7 @@ pub fn alter(
         writes,
         targets,
         written,
+        kept,
         before,
         after,
         known,

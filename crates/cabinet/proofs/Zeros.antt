@@ -12,7 +12,7 @@ use Rattle.replies.specs.Replies.{capacity}
 
 abbrev zeros : Tables
 zeros =
-    tables (replicate 1 0) (replicate 128 0) (replicate 128 0) (replicate 128 0) (replicate 128 0) (replicate 128 0) (replicate 32768 0) (replicate 128 0) (replicate 128 0) (replicate 4096 0) (replicate 4096 (pos 0)) (replicate 4096 0) (replicate 4096 (pos 0)) (replicate 1024 (pos 0)) (replicate 128 0)
+    tables (replicate 1 0) (replicate 128 0) (replicate 128 0) (replicate 128 0) (replicate 128 0) (replicate 128 0) (replicate 32768 0) (replicate 128 0) (replicate 128 0) (replicate 4096 0) (replicate 4096 (pos 0)) (replicate 4096 0) (replicate 4096 (pos 0)) (replicate 1024 (pos 0)) (replicate 128 0) (replicate 1 0) (replicate 1024 (pos 0))
 
 pub zeros-fit : lengthsFit capacity zeros ≡ true
 zeros-fit =
@@ -35,4 +35,6 @@ zeros-fit =
       written = length-replicate 4096 (pos 0);
       view = length-replicate 1024 (pos 0);
       versions = length-replicate {A = ℕ} 128 0;
+      cutoff = length-replicate {A = ℕ} 1 0;
+      kept = length-replicate 1024 (pos 0);
     })

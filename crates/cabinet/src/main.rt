@@ -22,6 +22,8 @@ fn main() {
     let mut written = [0i32; 4096];
     let mut view = [0i32; 1024];
     let mut versions = [0u16; 128];
+    let mut cutoff = [0u64; 1];
+    let mut kept = [0i32; 1024];
     let mut answers = [0u8; 512];
     let mut text = [0u8; 131072];
     let end = put_listing(
@@ -41,6 +43,8 @@ fn main() {
         &mut written,
         &mut view,
         &mut versions,
+        &mut cutoff,
+        &mut kept,
         &mut answers,
         &mut text,
     );

@@ -27,12 +27,14 @@ pub fn turn(
     written: &mut [i32],
     view: &mut [i32],
     versions: &[u16],
+    cutoff: &[u64],
+    kept: &[i32],
 ) -> Turned
     ensures { λ r. ⌜
         (let T =
         tables (now (held .entry)) (now (timestamps .entry)) (now (order .entry)) (now (status .entry)) (now (withdrawn .entry))
         (now (lengths .entry)) (now (programs .entry)) (now (reads .entry)) (now (writes .entry)) (now (sources .entry))
-        (now (seen .entry)) (now (targets .entry)) (now (written .entry)) (now (view .entry)) (now (versions .entry)) in
+        (now (seen .entry)) (now (targets .entry)) (now (written .entry)) (now (view .entry)) (now (versions .entry)) (now (cutoff .entry)) (now (kept .entry)) in
         reply r
         (withTurn T (now (status .exit)) (now (reads .exit)) (now (writes .exit)) (now (sources .exit)) (now (seen .exit))
         (now (targets .exit)) (now (written .exit)) (now (view .exit)))
@@ -56,6 +58,8 @@ pub fn turn(
         written,
         view,
         versions,
+        cutoff,
+        kept,
     );
     if refusal != 0 {
         return Turned::Refused(refusal);
@@ -76,6 +80,8 @@ pub fn turn(
         written,
         view,
         versions,
+        cutoff,
+        kept,
     )
 }
 
@@ -97,13 +103,15 @@ pub fn drain(
     written: &mut [i32],
     view: &mut [i32],
     versions: &[u16],
+    cutoff: &[u64],
+    kept: &[i32],
     totals: &mut [u16],
 ) -> Answer
     ensures { λ r. ⌜
         (let T =
         tables (now (held .entry)) (now (timestamps .entry)) (now (order .entry)) (now (status .entry)) (now (withdrawn .entry))
         (now (lengths .entry)) (now (programs .entry)) (now (reads .entry)) (now (writes .entry)) (now (sources .entry))
-        (now (seen .entry)) (now (targets .entry)) (now (written .entry)) (now (view .entry)) (now (versions .entry)) in
+        (now (seen .entry)) (now (targets .entry)) (now (written .entry)) (now (view .entry)) (now (versions .entry)) (now (cutoff .entry)) (now (kept .entry)) in
         totalsReply r
         (withTurn T (now (status .exit)) (now (reads .exit)) (now (writes .exit)) (now (sources .exit)) (now (seen .exit))
         (now (targets .exit)) (now (written .exit)) (now (view .exit)))
@@ -131,6 +139,8 @@ pub fn drain(
         written,
         view,
         versions,
+        cutoff,
+        kept,
     );
     if refusal != 0 {
         return Answer::Refused(refusal);
@@ -152,6 +162,8 @@ pub fn drain(
         written,
         view,
         versions,
+        cutoff,
+        kept,
         totals,
     );
     Answer::Done

@@ -8,10 +8,10 @@ use native.Mathlib.Omega.{arith}
 use lib.IntN.{ℤ}
 use lib.ListN.{length, getD, replicate, length-replicate, getD-replicate}
 use Rattle.model.specs.declared.Turned.{Turned}
-use Rattle.model.specs.History.{start, History}
+use Rattle.model.specs.History.{History}
 use Rattle.model.specs.Figure.{Event, Step, idle, turned}
 use Rattle.model.specs.Drain.{Drain, drainMore, drainHistory, totalCount, totalAt}
-use Rattle.model.specs.Cabinet.{Cabinet, historyOf, withHistory}
+use Rattle.model.specs.Cabinet.{Cabinet, keptIn, historyOf, withHistory}
 use Rattle.model.specs.Tables.{Tables, encode, decode}
 use Rattle.model.specs.Calls.{Reply, reply, eventAnswer, stepReply, roundOf, drainOf}
 use Rattle.model.specs.Sound.{Sound}
@@ -69,11 +69,11 @@ module _ (T : Tables) (g : Formed (length (T .order)) T) where
   -- an idle turn is the last
   module _ (q : roundOf (decode T) ≡ idle) where
     idle-turns : turnsOf T ≡ []
-    idle-turns = ap (λ (d : Drain). d .events) (drain-idle start (historyOf (decode T)) (decode T .view) q)
+    idle-turns = ap (λ (d : Drain). d .events) (drain-idle (keptIn (decode T)) (historyOf (decode T)) (decode T .view) q)
 
     idle-tables : drained T .tables ≡ T
     idle-tables =
-        ap (λ (d : Drain). encode capacity (withHistory (decode T) (d .history) (d .view))) (drain-idle start (historyOf (decode T)) (decode T .view) q)
+        ap (λ (d : Drain). encode capacity (withHistory (decode T) (d .history) (d .view))) (drain-idle (keptIn (decode T)) (historyOf (decode T)) (decode T .view) q)
         ∙ ap (encode capacity) (same-history (decode T))
         ∙ facts g .laid
 
@@ -89,7 +89,7 @@ module _ (T : Tables) (g : Formed (length (T .order)) T) where
     next-sound = round-sound sound q
 
     keeps : Keeps (historyOf (decode T)) (decode T .view) h view
-    keeps = subst (StepKeeps (historyOf (decode T)) (decode T .view)) q (round-keeps start (historyOf (decode T)) (decode T .view))
+    keeps = subst (StepKeeps (historyOf (decode T)) (decode T .view)) q (round-keeps (keptIn (decode T)) (historyOf (decode T)) (decode T .view))
 
     left-capacity : length (left .order) ≡ capacity
     left-capacity = lengths-encode capacity next next-sound .order
@@ -97,13 +97,13 @@ module _ (T : Tables) (g : Formed (length (T .order)) T) where
     left-formed : Formed (length (left .order)) left
     left-formed = subst (λ (m : ℕ). Formed m left) (sym left-capacity) (encode-formed next-sound)
 
-    drain-left : drainOf (decode left) ≡ drainHistory start h view
+    drain-left : drainOf (decode left) ≡ drainHistory (keptIn (decode T)) h view
     drain-left =
         ap drainOf (decode-encode capacity next next-sound)
-        ∙ ap (λ (g : History). drainHistory start g view) (withHistory-history (decode T) h view (sound .placed) (keeps-length keeps))
+        ∙ ap (λ (g : History). drainHistory (keptIn (decode T)) g view) (withHistory-history (decode T) h view (sound .placed) (keeps-length keeps))
 
     drain-first : drainOf (decode T) ≡ drainMore e (drainOf (decode left))
-    drain-first = drain-next start (historyOf (decode T)) (decode T .view) (sound .rising) q ∙ ap (drainMore e) (sym drain-left)
+    drain-first = drain-next (keptIn (decode T)) (historyOf (decode T)) (decode T .view) (sound .rising) q ∙ ap (drainMore e) (sym drain-left)
 
     tables-left : drained left .tables ≡ drained T .tables
     tables-left =
@@ -113,7 +113,7 @@ module _ (T : Tables) (g : Formed (length (T .order)) T) where
         ∙ ap (λ (d : Drain). encode capacity (withHistory (decode T) (d .history) (d .view))) (sym drain-first)
       where
         drain-length : length (drainOf (decode left) .history) ≡ length h
-        drain-length = ap (λ (d : Drain). length (d .history)) drain-left ∙ keeps-length (drain-keeps start h view)
+        drain-length = ap (λ (d : Drain). length (d .history)) drain-left ∙ keeps-length (drain-keeps (keptIn (decode T)) h view)
 
     events-left : turnsOf T ≡ e ∷ turnsOf left
     events-left = ap (λ (d : Drain). d .events) drain-first
@@ -146,7 +146,7 @@ module _ (T : Tables) (g : Formed (length (T .order)) T) where
     -- where no change waits any more
     pub drain-ends-here : waitingIn T ≡ none → reply counted T ≡ drained T₀
     drain-ends-here z =
-        let none-left = round-walk start (historyIn T) (decode T .view) 0 (sound .rising) ∙ walk-none g z start (decode T .view) in
+        let none-left = round-walk (keptIn (decode T)) (historyIn T) (decode T .view) 0 (sound .rising) ∙ walk-none g z (keptIn (decode T)) (decode T .view) in
         ap₂ reply
         (totals-are (turnsOf T₀) counted (k .size)
         (λ place b. let rest : totalAt place (turnsOf T) ≡ 0 = ap (totalAt place) (idle-turns none-left) in omega (arith, k .counts place b)))
@@ -161,5 +161,5 @@ totals-small {T₀} g k =
       size = k .size;
       small = λ place b.
           let within : totalAt place (turnsOf T₀) ≤ length (turnsOf T₀) = count-within _ (turnsOf T₀) in
-          omega (arith, k .counts place b, within, drain-within start (historyOf c) (c .view), changesAt-length (c .changes) (c .order), s .placed .counted, s .small, s .capacity);
+          omega (arith, k .counts place b, within, drain-within (keptIn c) (historyOf c) (c .view), changesAt-length (c .changes) (c .order), s .placed .counted, s .small, s .capacity);
     }

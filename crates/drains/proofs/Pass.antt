@@ -8,7 +8,6 @@ use native.Mathlib.Omega.{arith}
 use lib.IntN.{ℤ}
 use lib.ListN.{length, getD, replicate}
 use Rattle.model.specs.declared.Turned.{Turned}
-use Rattle.model.specs.History.{start, allSettings}
 use Rattle.model.specs.Drain.{totalCount}
 use Rattle.model.specs.Tables.{Tables, heldCount}
 use Rattle.model.specs.Form.{Formed}
@@ -18,7 +17,7 @@ use Rattle.search.specs.Searches.{isWaiting, waitingIn}
 use Rattle.search.proofs.First.{first-some, none-first}
 use Rattle.search.proofs.Model.{tested-settings, placed-writes, listed}
 use Rattle.values.specs.Values.{Carriable, CarriedBelow}
-use Rattle.values.proofs.Known.{known-start}
+use Rattle.values.proofs.Known.{known-kept}
 use Rattle.marking.specs.Marks.{columnsOf, Walkable}
 use Rattle.marking.specs.Uses.{Numbers, LastUses}
 use Rattle.marking.proofs.LastUses.{numbers-new}
@@ -63,8 +62,8 @@ module _ {T : Tables} {first : ℕ} (g : Formed (length (T .order)) T) (w : wait
   pub pass-begins :
       {counted : List ℕ} {before after before' after' : List ℤ} {readers writers : List ℕ} →
       counted ≡ replicate totalCount 0 →
-      before ≡ allSettings start →
-      after ≡ allSettings start →
+      before ≡ T .kept →
+      after ≡ T .kept →
       CarriedBelow first (T .order) (T .writes) (T .targets) (T .written) before after before' after' →
       LastUses first (heldCount T) (columnsOf T) (T .status) readers writers →
       Passing T T counted first (replicate 1024 1) before' after' readers writers (replicate 1024 0)
@@ -76,7 +75,7 @@ module _ {T : Tables} {first : ℕ} (g : Formed (length (T .order)) T) (w : wait
             record {
               formed = g;
               passed = first-some waits (heldCount T) first w .2;
-              values = c .right (replicate 1024 1) (known-start b a);
+              values = c .right (T .kept) (replicate 1024 1) (known-kept (facts g .sizes .kept) b a);
               uses = uses-passed (first + 1) (omega arith) (uses-first u numbers-new);
             };
       }

@@ -39,7 +39,7 @@ module _ {k : ℕ} {T : Tables} {known : List ℕ} {before after : List ℤ} {re
     record {
       formed = p .formed;
       passed = below-next;
-      values = rw (add-one k) (known-next (T .order) (T .writes) (T .targets) (T .written) k (p .values) c);
+      values = rw (add-one k) (known-next (T .order) (T .writes) (T .targets) (T .written) (T .kept) k (p .values) c);
       uses = uses-passed (k + 1 + 1) (omega arith) (p .uses);
     },
   )

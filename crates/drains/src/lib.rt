@@ -1,5 +1,5 @@
 // A drain on tables in form: one pass up the order list, in which each change is passed over or has its turn.
-use fresh::fill_start;
+use fresh::fill_from;
 use marking::last_uses;
 use model::Turned;
 use search::Found;
@@ -38,6 +38,8 @@ fn pass_at(
     written: &mut [i32],
     view: &mut [i32],
     versions: &[u16],
+    cutoff: &[u64],
+    kept: &[i32],
     before: &mut [i32; 1024],
     after: &mut [i32; 1024],
     known: &mut [u8; 1024],
@@ -48,14 +50,14 @@ fn pass_at(
     requires { ⌜
         (let T =
         tables (now held) (now timestamps) (now order) (now status) (now withdrawn) (now lengths) (now programs) (now reads)
-        (now writes) (now sources) (now seen) (now targets) (now written) (now view) (now versions) in
+        (now writes) (now sources) (now seen) (now targets) (now written) (now view) (now versions) (now cutoff) (now kept) in
         (k < heldCount T) × Going k T (now known) (now before) (now after) (now readers) (now writers) (now settled))
         ⌝ }
     ensures { λ r. ⌜
         (let T =
         tables (now (held .entry)) (now (timestamps .entry)) (now (order .entry)) (now (status .entry)) (now (withdrawn .entry))
         (now (lengths .entry)) (now (programs .entry)) (now (reads .entry)) (now (writes .entry)) (now (sources .entry))
-        (now (seen .entry)) (now (targets .entry)) (now (written .entry)) (now (view .entry)) (now (versions .entry)) in
+        (now (seen .entry)) (now (targets .entry)) (now (written .entry)) (now (view .entry)) (now (versions .entry)) (now (cutoff .entry)) (now (kept .entry)) in
         let U =
         withTurn T (now (status .exit)) (now (reads .exit)) (now (writes .exit)) (now (sources .exit)) (now (seen .exit))
         (now (targets .exit)) (now (written .exit)) (now (view .exit)) in
@@ -87,6 +89,8 @@ fn pass_at(
         written,
         view,
         versions,
+        cutoff,
+        kept,
         before,
         after,
         known,
@@ -115,19 +119,21 @@ fn turn_from(
     written: &mut [i32],
     view: &mut [i32],
     versions: &[u16],
+    cutoff: &[u64],
+    kept: &[i32],
     totals: &mut [u16],
 )
     requires { ⌜
         (let T =
         tables (now held) (now timestamps) (now order) (now status) (now withdrawn) (now lengths) (now programs) (now reads)
-        (now writes) (now sources) (now seen) (now targets) (now written) (now view) (now versions) in
+        (now writes) (now sources) (now seen) (now targets) (now written) (now view) (now versions) (now cutoff) (now kept) in
         Formed (length (T .order)) T × (waitingIn T ≡ some first) × (now totals ≡ replicate totalCount 0))
         ⌝ }
     ensures { λ _. ⌜
         (let T =
         tables (now (held .entry)) (now (timestamps .entry)) (now (order .entry)) (now (status .entry)) (now (withdrawn .entry))
         (now (lengths .entry)) (now (programs .entry)) (now (reads .entry)) (now (writes .entry)) (now (sources .entry))
-        (now (seen .entry)) (now (targets .entry)) (now (written .entry)) (now (view .entry)) (now (versions .entry)) in
+        (now (seen .entry)) (now (targets .entry)) (now (written .entry)) (now (view .entry)) (now (versions .entry)) (now (cutoff .entry)) (now (kept .entry)) in
         reply (now (totals .exit))
         (withTurn T (now (status .exit)) (now (reads .exit)) (now (writes .exit)) (now (sources .exit)) (now (seen .exit))
         (now (targets .exit)) (now (written .exit)) (now (view .exit)))
@@ -141,8 +147,8 @@ fn turn_from(
     let mut readers = [0u16; 1024];
     let mut writers = [0u16; 1024];
     let mut settled = [0u16; 1024];
-    fill_start(&mut before);
-    fill_start(&mut after);
+    fill_from(kept, &mut before);
+    fill_from(kept, &mut after);
     carry_below(
         first,
         order,
@@ -183,6 +189,8 @@ fn turn_from(
             written,
             view,
             versions,
+            cutoff,
+            kept,
             &mut before,
             &mut after,
             &mut known,
@@ -212,19 +220,21 @@ pub fn turn_all(
     written: &mut [i32],
     view: &mut [i32],
     versions: &[u16],
+    cutoff: &[u64],
+    kept: &[i32],
     totals: &mut [u16],
 )
     requires { ⌜
         Formed (length (now order))
         (tables (now held) (now timestamps) (now order) (now status) (now withdrawn) (now lengths) (now programs) (now reads)
-        (now writes) (now sources) (now seen) (now targets) (now written) (now view) (now versions))
+        (now writes) (now sources) (now seen) (now targets) (now written) (now view) (now versions) (now cutoff) (now kept))
         × (now totals ≡ replicate totalCount 0)
         ⌝ }
     ensures { λ _. ⌜
         (let T =
         tables (now (held .entry)) (now (timestamps .entry)) (now (order .entry)) (now (status .entry)) (now (withdrawn .entry))
         (now (lengths .entry)) (now (programs .entry)) (now (reads .entry)) (now (writes .entry)) (now (sources .entry))
-        (now (seen .entry)) (now (targets .entry)) (now (written .entry)) (now (view .entry)) (now (versions .entry)) in
+        (now (seen .entry)) (now (targets .entry)) (now (written .entry)) (now (view .entry)) (now (versions .entry)) (now (cutoff .entry)) (now (kept .entry)) in
         reply (now (totals .exit))
         (withTurn T (now (status .exit)) (now (reads .exit)) (now (writes .exit)) (now (sources .exit)) (now (seen .exit))
         (now (targets .exit)) (now (written .exit)) (now (view .exit)))
@@ -250,6 +260,8 @@ pub fn turn_all(
             written,
             view,
             versions,
+            cutoff,
+            kept,
             totals,
         ),
         Found::Nothing => {}

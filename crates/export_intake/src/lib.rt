@@ -29,16 +29,18 @@ pub extern "C" fn tolbezun_set_up(
     written: &mut [i32],
     view: &mut [i32],
     versions: &mut [u16],
+    cutoff: &mut [u64],
+    kept: &mut [i32],
 ) -> u8
     ensures { λ r. ⌜
         (let T =
         tables (now (held .entry)) (now (timestamps .entry)) (now (order .entry)) (now (status .entry)) (now (withdrawn .entry))
         (now (lengths .entry)) (now (programs .entry)) (now (reads .entry)) (now (writes .entry)) (now (sources .entry))
-        (now (seen .entry)) (now (targets .entry)) (now (written .entry)) (now (view .entry)) (now (versions .entry)) in
+        (now (seen .entry)) (now (targets .entry)) (now (written .entry)) (now (view .entry)) (now (versions .entry)) (now (cutoff .entry)) (now (kept .entry)) in
         reply r
         (tables (now (held .exit)) (now (timestamps .exit)) (now (order .exit)) (now (status .exit)) (now (withdrawn .exit))
         (now (lengths .exit)) (now (programs .exit)) (now (reads .exit)) (now (writes .exit)) (now (sources .exit))
-        (now (seen .exit)) (now (targets .exit)) (now (written .exit)) (now (view .exit)) (now (versions .exit)))
+        (now (seen .exit)) (now (targets .exit)) (now (written .exit)) (now (view .exit)) (now (versions .exit)) (now (cutoff .exit)) (now (kept .exit)))
         ≡ answering answerNumber (setUp n T))
         ⌝ }
 {
@@ -59,6 +61,8 @@ pub extern "C" fn tolbezun_set_up(
         written,
         view,
         versions,
+        cutoff,
+        kept,
     ))
 }
 
@@ -81,6 +85,8 @@ pub extern "C" fn tolbezun_take_in(
     written: &[i32],
     view: &[i32],
     versions: &mut [u16],
+    cutoff: &[u64],
+    kept: &[i32],
     timestamp: u64,
     version: u16,
     program: &[u8],
@@ -89,7 +95,7 @@ pub extern "C" fn tolbezun_take_in(
         (let T =
         tables (now (held .entry)) (now (timestamps .entry)) (now (order .entry)) (now (status .entry)) (now (withdrawn .entry))
         (now (lengths .entry)) (now (programs .entry)) (now (reads .entry)) (now (writes .entry)) (now (sources .entry))
-        (now (seen .entry)) (now (targets .entry)) (now (written .entry)) (now (view .entry)) (now (versions .entry)) in
+        (now (seen .entry)) (now (targets .entry)) (now (written .entry)) (now (view .entry)) (now (versions .entry)) (now (cutoff .entry)) (now (kept .entry)) in
         reply r
         (withTaking T (now (held .exit)) (now (timestamps .exit)) (now (order .exit)) (now (lengths .exit)) (now (programs .exit)) (now (versions .exit)))
         ≡ answering answerNumber (takeIn n T timestamp (code version (now (program .entry)))))
@@ -112,6 +118,8 @@ pub extern "C" fn tolbezun_take_in(
         written,
         view,
         versions,
+        cutoff,
+        kept,
         timestamp,
         version,
         program,
@@ -137,13 +145,15 @@ pub extern "C" fn tolbezun_withdraw(
     written: &[i32],
     view: &[i32],
     versions: &[u16],
+    cutoff: &[u64],
+    kept: &[i32],
     timestamp: u64,
 ) -> u8
     ensures { λ r. ⌜
         (let T =
         tables (now (held .entry)) (now (timestamps .entry)) (now (order .entry)) (now (status .entry)) (now (withdrawn .entry))
         (now (lengths .entry)) (now (programs .entry)) (now (reads .entry)) (now (writes .entry)) (now (sources .entry))
-        (now (seen .entry)) (now (targets .entry)) (now (written .entry)) (now (view .entry)) (now (versions .entry)) in
+        (now (seen .entry)) (now (targets .entry)) (now (written .entry)) (now (view .entry)) (now (versions .entry)) (now (cutoff .entry)) (now (kept .entry)) in
         reply r
         (withWithdrawing T (now (status .exit)) (now (withdrawn .exit)))
         ≡ answering answerNumber (withdraw n T timestamp))
@@ -166,6 +176,8 @@ pub extern "C" fn tolbezun_withdraw(
         written,
         view,
         versions,
+        cutoff,
+        kept,
         timestamp,
     ))
 }
@@ -189,6 +201,8 @@ pub extern "C" fn tolbezun_take_in_package(
     written: &[i32],
     view: &[i32],
     versions: &mut [u16],
+    cutoff: &[u64],
+    kept: &[i32],
     bytes: &[u8],
     answers: &mut [u8],
 ) -> u8
@@ -196,7 +210,7 @@ pub extern "C" fn tolbezun_take_in_package(
         (let T =
         tables (now (held .entry)) (now (timestamps .entry)) (now (order .entry)) (now (status .entry)) (now (withdrawn .entry))
         (now (lengths .entry)) (now (programs .entry)) (now (reads .entry)) (now (writes .entry)) (now (sources .entry))
-        (now (seen .entry)) (now (targets .entry)) (now (written .entry)) (now (view .entry)) (now (versions .entry)) in
+        (now (seen .entry)) (now (targets .entry)) (now (written .entry)) (now (view .entry)) (now (versions .entry)) (now (cutoff .entry)) (now (kept .entry)) in
         reply (numbered r (now (answers .exit)))
         (withPackage T (now (held .exit)) (now (timestamps .exit)) (now (order .exit)) (now (status .exit))
         (now (withdrawn .exit)) (now (lengths .exit)) (now (programs .exit)) (now (versions .exit)))
@@ -220,6 +234,8 @@ pub extern "C" fn tolbezun_take_in_package(
         written,
         view,
         versions,
+        cutoff,
+        kept,
         bytes,
         answers,
     ))

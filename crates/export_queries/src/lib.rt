@@ -33,13 +33,15 @@ pub extern "C" fn tolbezun_current_value(
     written: &[i32],
     view: &[i32],
     versions: &[u16],
+    cutoff: &[u64],
+    kept: &[i32],
     setting: usize,
 ) -> i64
     ensures { λ r. ⌜
         (let T =
         tables (now (held .entry)) (now (timestamps .entry)) (now (order .entry)) (now (status .entry)) (now (withdrawn .entry))
         (now (lengths .entry)) (now (programs .entry)) (now (reads .entry)) (now (writes .entry)) (now (sources .entry))
-        (now (seen .entry)) (now (targets .entry)) (now (written .entry)) (now (view .entry)) (now (versions .entry)) in
+        (now (seen .entry)) (now (targets .entry)) (now (written .entry)) (now (view .entry)) (now (versions .entry)) (now (cutoff .entry)) (now (kept .entry)) in
         r ≡ valueNumber (valueGiven (currentValue n T setting)))
         ⌝ }
 {
@@ -60,6 +62,8 @@ pub extern "C" fn tolbezun_current_value(
         written,
         view,
         versions,
+        cutoff,
+        kept,
         setting,
     ))
 }
@@ -83,6 +87,8 @@ pub extern "C" fn tolbezun_value_as_of(
     written: &[i32],
     view: &[i32],
     versions: &[u16],
+    cutoff: &[u64],
+    kept: &[i32],
     timestamp: u64,
     setting: usize,
 ) -> i64
@@ -90,7 +96,7 @@ pub extern "C" fn tolbezun_value_as_of(
         (let T =
         tables (now (held .entry)) (now (timestamps .entry)) (now (order .entry)) (now (status .entry)) (now (withdrawn .entry))
         (now (lengths .entry)) (now (programs .entry)) (now (reads .entry)) (now (writes .entry)) (now (sources .entry))
-        (now (seen .entry)) (now (targets .entry)) (now (written .entry)) (now (view .entry)) (now (versions .entry)) in
+        (now (seen .entry)) (now (targets .entry)) (now (written .entry)) (now (view .entry)) (now (versions .entry)) (now (cutoff .entry)) (now (kept .entry)) in
         r ≡ valueNumber (valueGiven (valueAsOf n T timestamp setting)))
         ⌝ }
 {
@@ -111,6 +117,8 @@ pub extern "C" fn tolbezun_value_as_of(
         written,
         view,
         versions,
+        cutoff,
+        kept,
         timestamp,
         setting,
     ))
@@ -135,13 +143,15 @@ pub extern "C" fn tolbezun_standing(
     written: &[i32],
     view: &[i32],
     versions: &[u16],
+    cutoff: &[u64],
+    kept: &[i32],
     timestamp: u64,
 ) -> u32
     ensures { λ r. ⌜
         (let T =
         tables (now (held .entry)) (now (timestamps .entry)) (now (order .entry)) (now (status .entry)) (now (withdrawn .entry))
         (now (lengths .entry)) (now (programs .entry)) (now (reads .entry)) (now (writes .entry)) (now (sources .entry))
-        (now (seen .entry)) (now (targets .entry)) (now (written .entry)) (now (view .entry)) (now (versions .entry)) in
+        (now (seen .entry)) (now (targets .entry)) (now (written .entry)) (now (view .entry)) (now (versions .entry)) (now (cutoff .entry)) (now (kept .entry)) in
         r ≡ standingNumber (standingGiven (standing n T timestamp)))
         ⌝ }
 {
@@ -162,6 +172,8 @@ pub extern "C" fn tolbezun_standing(
         written,
         view,
         versions,
+        cutoff,
+        kept,
         timestamp,
     ))
 }
@@ -185,13 +197,15 @@ pub extern "C" fn tolbezun_plain_run(
     written: &[i32],
     view: &[i32],
     versions: &[u16],
+    cutoff: &[u64],
+    kept: &[i32],
     settings: &mut [i32],
 ) -> u8
     ensures { λ r. ⌜
         (let T =
         tables (now (held .entry)) (now (timestamps .entry)) (now (order .entry)) (now (status .entry)) (now (withdrawn .entry))
         (now (lengths .entry)) (now (programs .entry)) (now (reads .entry)) (now (writes .entry)) (now (sources .entry))
-        (now (seen .entry)) (now (targets .entry)) (now (written .entry)) (now (view .entry)) (now (versions .entry)) in
+        (now (seen .entry)) (now (targets .entry)) (now (written .entry)) (now (view .entry)) (now (versions .entry)) (now (cutoff .entry)) (now (kept .entry)) in
         numbered r (now (settings .exit)) ≡ plainNumbers (plainRun n T (now (settings .entry))))
         ⌝ }
 {
@@ -212,6 +226,8 @@ pub extern "C" fn tolbezun_plain_run(
         written,
         view,
         versions,
+        cutoff,
+        kept,
         settings,
     ))
 }
@@ -235,13 +251,15 @@ pub extern "C" fn tolbezun_package_out(
     written: &[i32],
     view: &[i32],
     versions: &[u16],
+    cutoff: &[u64],
+    kept: &[i32],
     bytes: &mut [u8],
 ) -> u32
     ensures { λ r. ⌜
         (let T =
         tables (now (held .entry)) (now (timestamps .entry)) (now (order .entry)) (now (status .entry)) (now (withdrawn .entry))
         (now (lengths .entry)) (now (programs .entry)) (now (reads .entry)) (now (writes .entry)) (now (sources .entry))
-        (now (seen .entry)) (now (targets .entry)) (now (written .entry)) (now (view .entry)) (now (versions .entry)) in
+        (now (seen .entry)) (now (targets .entry)) (now (written .entry)) (now (view .entry)) (now (versions .entry)) (now (cutoff .entry)) (now (kept .entry)) in
         numbered r (now (bytes .exit)) ≡ packedNumbers (packageOut n T (now (bytes .entry))))
         ⌝ }
 {
@@ -262,6 +280,8 @@ pub extern "C" fn tolbezun_package_out(
         written,
         view,
         versions,
+        cutoff,
+        kept,
         bytes,
     ))
 }

@@ -27,13 +27,15 @@ pub extern "C" fn tolbezun_turn(
     written: &mut [i32],
     view: &mut [i32],
     versions: &[u16],
+    cutoff: &[u64],
+    kept: &[i32],
     values: &mut [u64],
 ) -> u8
     ensures { λ r. ⌜
         (let T =
         tables (now (held .entry)) (now (timestamps .entry)) (now (order .entry)) (now (status .entry)) (now (withdrawn .entry))
         (now (lengths .entry)) (now (programs .entry)) (now (reads .entry)) (now (writes .entry)) (now (sources .entry))
-        (now (seen .entry)) (now (targets .entry)) (now (written .entry)) (now (view .entry)) (now (versions .entry)) in
+        (now (seen .entry)) (now (targets .entry)) (now (written .entry)) (now (view .entry)) (now (versions .entry)) (now (cutoff .entry)) (now (kept .entry)) in
         reply (numbered r (now (values .exit)))
         (withTurn T (now (status .exit)) (now (reads .exit)) (now (writes .exit)) (now (sources .exit)) (now (seen .exit))
         (now (targets .exit)) (now (written .exit)) (now (view .exit)))
@@ -60,6 +62,8 @@ pub extern "C" fn tolbezun_turn(
         written,
         view,
         versions,
+        cutoff,
+        kept,
     );
     put_turned(answer, values)
 }
@@ -83,13 +87,15 @@ pub extern "C" fn tolbezun_drain(
     written: &mut [i32],
     view: &mut [i32],
     versions: &[u16],
+    cutoff: &[u64],
+    kept: &[i32],
     totals: &mut [u16],
 ) -> u8
     ensures { λ r. ⌜
         (let T =
         tables (now (held .entry)) (now (timestamps .entry)) (now (order .entry)) (now (status .entry)) (now (withdrawn .entry))
         (now (lengths .entry)) (now (programs .entry)) (now (reads .entry)) (now (writes .entry)) (now (sources .entry))
-        (now (seen .entry)) (now (targets .entry)) (now (written .entry)) (now (view .entry)) (now (versions .entry)) in
+        (now (seen .entry)) (now (targets .entry)) (now (written .entry)) (now (view .entry)) (now (versions .entry)) (now (cutoff .entry)) (now (kept .entry)) in
         reply (numbered r (now (totals .exit)))
         (withTurn T (now (status .exit)) (now (reads .exit)) (now (writes .exit)) (now (sources .exit)) (now (seen .exit))
         (now (targets .exit)) (now (written .exit)) (now (view .exit)))
@@ -113,6 +119,8 @@ pub extern "C" fn tolbezun_drain(
         written,
         view,
         versions,
+        cutoff,
+        kept,
         totals,
     ))
 }

@@ -7,7 +7,7 @@ ghost use mathlib.Core.List.{[], _∷_};
 ghost use Prim.Native.Nat.{_+_, _*_, _<_, _≤_};
 ghost use lib.ListN.{length, getD};
 ghost use Rattle.machine.specs.Form.{allBelow};
-ghost use Rattle.model.specs.Form.{headFits, programFits, orderFits};
+ghost use Rattle.model.specs.Form.{headFits, programFits, orderFits, fromCutoff};
 
 // Whether a place's timestamp, status, flag, counts and version are right: a New change's lists are empty.
 fn head_fits(
@@ -90,6 +90,20 @@ pub fn order_fits(count: usize, order: &[u16], timestamps: &[u64]) -> bool
         fits = fits & ((place < count) & ((k == 0) | (last < timestamp)));
         last = timestamp;
         k += 1;
+    }
+    fits
+}
+
+// Whether none of the first count places has a timestamp below the cutoff.
+pub fn none_below(count: usize, cutoff: u64, timestamps: &[u64]) -> bool
+    requires { ⌜ count ≤ length (now timestamps) ⌝ }
+    ensures { λ r. ⌜ r ≡ allBelow count (fromCutoff cutoff (now (timestamps .entry))) ⌝ }
+{
+    let mut fits = true;
+    let mut i = 0;
+    while i < count {
+        fits = fits & (cutoff <= timestamps[i]);
+        i += 1;
     }
     fits
 }

@@ -39,6 +39,18 @@ pub fn fill_start(values: &mut [i32])
     }
 }
 
+// Every setting set to the value that a list has of it.
+pub fn fill_from(from: &[i32], values: &mut [i32])
+    requires { ⌜ (length (now from) ≡ 1024) × (length (now values) ≡ 1024) ⌝ }
+    ensures { λ _. ⌜ now (values .exit) ≡ now (from .entry) ⌝ }
+{
+    let mut i = 0;
+    while i < 1024 {
+        values[i] = from[i];
+        i += 1;
+    }
+}
+
 // A program run by the rules of a version on some values, and its writes carried into them.
 pub fn apply(version: u16, program: &[u8], values: &mut [i32])
     requires { ⌜ (length (now program) ≤ 256) × (wellFormed (now program) ≡ true) × (length (now values) ≡ 1024) ⌝ }

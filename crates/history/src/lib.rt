@@ -1,6 +1,7 @@
 // The cabinet's change history: the calls and the types of their answers.
 pub use checker::drain;
 pub use checker::turn;
+pub use cutoff::raise_cutoff;
 pub use intake::take_in;
 pub use intake::take_in_package;
 pub use intake::withdraw;

@@ -27,6 +27,8 @@ pub fn take_in(
     written: &[i32],
     view: &[i32],
     versions: &mut [u16],
+    cutoff: &[u64],
+    kept: &[i32],
     timestamp: u64,
     version: u16,
     program: &[u8],
@@ -35,7 +37,7 @@ pub fn take_in(
         (let T =
         tables (now (held .entry)) (now (timestamps .entry)) (now (order .entry)) (now (status .entry)) (now (withdrawn .entry))
         (now (lengths .entry)) (now (programs .entry)) (now (reads .entry)) (now (writes .entry)) (now (sources .entry))
-        (now (seen .entry)) (now (targets .entry)) (now (written .entry)) (now (view .entry)) (now (versions .entry)) in
+        (now (seen .entry)) (now (targets .entry)) (now (written .entry)) (now (view .entry)) (now (versions .entry)) (now (cutoff .entry)) (now (kept .entry)) in
         reply r (withTaking T (now (held .exit)) (now (timestamps .exit)) (now (order .exit)) (now (lengths .exit)) (now (programs .exit)) (now (versions .exit)))
         ≡ takeIn n T timestamp (code version (now (program .entry))))
         ⌝ }
@@ -57,6 +59,8 @@ pub fn take_in(
         written,
         view,
         versions,
+        cutoff,
+        kept,
     );
     if refusal != 0 {
         return Answer::Refused(refusal);
@@ -68,6 +72,7 @@ pub fn take_in(
         lengths,
         programs,
         versions,
+        cutoff,
         timestamp,
         version,
         program,
@@ -92,13 +97,15 @@ pub fn withdraw(
     written: &[i32],
     view: &[i32],
     versions: &[u16],
+    cutoff: &[u64],
+    kept: &[i32],
     timestamp: u64,
 ) -> Answer
     ensures { λ r. ⌜
         (let T =
         tables (now (held .entry)) (now (timestamps .entry)) (now (order .entry)) (now (status .entry)) (now (withdrawn .entry))
         (now (lengths .entry)) (now (programs .entry)) (now (reads .entry)) (now (writes .entry)) (now (sources .entry))
-        (now (seen .entry)) (now (targets .entry)) (now (written .entry)) (now (view .entry)) (now (versions .entry)) in
+        (now (seen .entry)) (now (targets .entry)) (now (written .entry)) (now (view .entry)) (now (versions .entry)) (now (cutoff .entry)) (now (kept .entry)) in
         reply r (withWithdrawing T (now (status .exit)) (now (withdrawn .exit)))
         ≡ withdraw n T timestamp)
         ⌝ }
@@ -120,9 +127,19 @@ pub fn withdraw(
         written,
         view,
         versions,
+        cutoff,
+        kept,
     );
     if refusal != 0 {
         return Answer::Refused(refusal);
     }
-    withdraw_item(held, timestamps, order, status, withdrawn, timestamp)
+    withdraw_item(
+        held,
+        timestamps,
+        order,
+        status,
+        withdrawn,
+        cutoff,
+        timestamp,
+    )
 }

@@ -32,13 +32,15 @@ pub fn put_listing(
     written: &mut [i32],
     view: &mut [i32],
     versions: &mut [u16],
+    cutoff: &mut [u64],
+    kept: &mut [i32],
     answers: &mut [u8],
     text: &mut [u8],
 ) -> usize
     requires { ⌜
         lengthsFit capacity
         (tables (now held) (now timestamps) (now order) (now status) (now withdrawn) (now lengths) (now programs)
-        (now reads) (now writes) (now sources) (now seen) (now targets) (now written) (now view) (now versions))
+        (now reads) (now writes) (now sources) (now seen) (now targets) (now written) (now view) (now versions) (now cutoff) (now kept))
         ≡ true
         ⌝ }
     requires { ⌜ (length (now answers) ≡ 512) × (131072 ≤ length (now text)) ⌝ }
@@ -46,7 +48,7 @@ pub fn put_listing(
         (let T =
         tables (now (held .entry)) (now (timestamps .entry)) (now (order .entry)) (now (status .entry)) (now (withdrawn .entry))
         (now (lengths .entry)) (now (programs .entry)) (now (reads .entry)) (now (writes .entry)) (now (sources .entry))
-        (now (seen .entry)) (now (targets .entry)) (now (written .entry)) (now (view .entry)) (now (versions .entry)) in
+        (now (seen .entry)) (now (targets .entry)) (now (written .entry)) (now (view .entry)) (now (versions .entry)) (now (cutoff .entry)) (now (kept .entry)) in
         Put 0 (listing T (now (bytes .entry)) (now (answers .entry))) (now (text .entry)) (now (text .exit)) r)
         ⌝ }
     ensures { λ r. ⌜ Counts r (now (text .exit)) ⌝ }
@@ -68,6 +70,8 @@ pub fn put_listing(
         written,
         view,
         versions,
+        cutoff,
+        kept,
     );
     let answer = take_in_package(
         CAPACITY,
@@ -86,6 +90,8 @@ pub fn put_listing(
         written,
         view,
         versions,
+        cutoff,
+        kept,
         bytes,
         answers,
     );
@@ -105,6 +111,8 @@ pub fn put_listing(
         written,
         view,
         versions,
+        cutoff,
+        kept,
         answer,
         bytes,
         answers,

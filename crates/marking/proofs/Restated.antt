@@ -18,7 +18,7 @@ use Rattle.model.proofs.Blocks.{blocks-same}
 use Rattle.model.proofs.Cabinet.{length-putAt, changesAt-other}
 
 abbrev pub withStatus : Tables → List ℕ → Tables
-withStatus T status = tables (T .held) (T .timestamps) (T .order) status (T .withdrawn) (T .lengths) (T .programs) (T .reads) (T .writes) (T .sources) (T .seen) (T .targets) (T .written) (T .view) (T .versions)
+withStatus T status = tables (T .held) (T .timestamps) (T .order) status (T .withdrawn) (T .lengths) (T .programs) (T .reads) (T .writes) (T .sources) (T .seen) (T .targets) (T .written) (T .view) (T .versions) (T .cutoff) (T .kept)
 
 -- a change without its status
 abbrev pub unstated : Change → Change
@@ -85,7 +85,7 @@ module _ (n : ℕ) (c : Cabinet) (s : Placed c) (h : History) (r : Restated (his
       let written = blocks-same n 32 (pos 0) (λ d. valuesOf (lists d .writes)) changes (c .changes) (map-same (λ t p w l. valuesOf (l .writes))) in
       let versions = ap (pad n 0) (map-same (λ t p w l. p .version)) in
       λ j.
-      tables (held j) (timestamps j) (encode n c .order) (encode n (withHistory c h (c .view)) .status) (withdrawn j) (lengths j) (programs j) (reads j) (writes j) (sources j) (seen j) (targets j) (written j) (c .view) (versions j)
+      tables (held j) (timestamps j) (encode n c .order) (encode n (withHistory c h (c .view)) .status) (withdrawn j) (lengths j) (programs j) (reads j) (writes j) (sources j) (seen j) (targets j) (written j) (c .view) (versions j) (encode n c .cutoff) (c .kept)
 
 -- ---- marking
 

@@ -1,14 +1,14 @@
 -- The values as of a timestamp, in a history by rising timestamp.
 use mathlib.Core.Path.{_≡_, refl, ap, _∙_}
 use mathlib.Core.Bool.{cond}
-use mathlib.Core.List.{[], _∷_, _++_}
+use mathlib.Core.List.{[], _∷_, _++_, map}
 use Prim.Native.Nat.{ℕ, _<_, _≤_}
 use native.Mathlib.Omega.{arith}
 use lib.Dec.{ltb}
 use borrow.Author.Tests.{lt-ltb, le-ltb}
 use Rattle.machine.specs.Settings.{Environment}
 use Rattle.model.specs.History.{Change, timestamp, History, afterChange, afterAll, asOf}
-use Rattle.model.specs.Sound.{Rising}
+use Rattle.model.specs.Sound.{Rising, NoneUnder}
 
 -- every change is stamped below t
 abbrev pub AllBelow : ℕ → History → Type 0
@@ -17,8 +17,7 @@ AllBelow t (c ∷ h) = (timestamp c < t) × AllBelow t h
 
 -- every change is stamped t or above
 abbrev pub NoneBelow : ℕ → History → Type 0
-NoneBelow t [] = Unit {0}
-NoneBelow t (c ∷ h) = (t ≤ timestamp c) × NoneBelow t h
+NoneBelow t h = NoneUnder t (map timestamp h)
 
 pub asOf-all-below : (t : ℕ) (h : History) (env : Environment) → AllBelow t h → asOf t h env ≡ afterAll h env
 asOf-all-below t [] env k = refl
@@ -31,6 +30,10 @@ asOf-none-below t (c ∷ h) env k = rw (le-ltb (timestamp c) t (k .0)) (asOf-non
 pub asOf-append : (t : ℕ) (a h : History) (env : Environment) → asOf t (a ++ h) env ≡ asOf t h (asOf t a env)
 asOf-append t [] h env = refl
 asOf-append t (c ∷ a) h env = asOf-append t a h (cond (ltb (timestamp c) t) (afterChange c env) env)
+
+pub afterAll-append : (a h : History) (env : Environment) → afterAll (a ++ h) env ≡ afterAll h (afterAll a env)
+afterAll-append [] h env = refl
+afterAll-append (c ∷ a) h env = afterAll-append a h (afterChange c env)
 
 pub rising-none-below : (t b : ℕ) (h : History) → t ≤ b → Rising b h → NoneBelow t h
 rising-none-below t b [] q r = tt

@@ -89,7 +89,7 @@ Fits width f [] = Unit {0}
 Fits width f (c ∷ changes) = (length (f c) ≤ width) × Fits width f changes
 
 module _ {A : Type 0} (width : ℕ) (f : Change → List A) where
-  fits-at : (changes : List Change) (i : ℕ) → Fits width f changes → i < length changes → length (f (getD changes i blank)) ≤ width
+  pub fits-at : (changes : List Change) (i : ℕ) → Fits width f changes → i < length changes → length (f (getD changes i blank)) ≤ width
   fits-at [] i k h = absurd (omega arith)
   fits-at (c ∷ changes) zero k h = k .0
   fits-at (c ∷ changes) (suc i) k h = fits-at changes i (k .1) (omega arith)
@@ -118,7 +118,7 @@ module _ {A : Type 0} (n width : ℕ) (z : A) (f : Change → List A) where
   padded-length (c ∷ changes) k =
       rw (length-append (pad width z (f c)), pad-length width z (f c) (k .0), padded-length changes (k .1)) (omega arith)
 
-  padded-append : (before later : List Change) → padded width z f (before ++ later) ≡ padded width z f before ++ padded width z f later
+  pub padded-append : (before later : List Change) → padded width z f (before ++ later) ≡ padded width z f before ++ padded width z f later
   padded-append [] later = refl
   padded-append (c ∷ before) later = rw (padded-append before later, append-assoc (pad width z (f c)))
 

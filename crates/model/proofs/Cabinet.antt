@@ -13,8 +13,8 @@ use Rattle.machine.proofs.Cases.{by-test, of-choice}
 use Rattle.model.specs.History.{New, empty, Change, change, timestamp, History}
 use Rattle.model.specs.Walk.{insert}
 use Rattle.model.specs.Cabinet.{Cabinet, blank, changesAt, historyOf, putAt, withHistory, enterPlace, add, flag, remove}
-use Rattle.model.specs.Sound.{AllSound, Below, NotIn, AllDistinct, Placed}
-use Rattle.model.proofs.Sound.{sound-at, set-sound}
+use Rattle.model.specs.Sound.{AllSound, NoneUnder, Below, NotIn, AllDistinct, Placed}
+use Rattle.model.proofs.Sound.{sound-at, set-sound, under-at, set-under}
 use Rattle.model.proofs.Order.{changesAt-length, placed-of}
 
 -- ---- changes at places
@@ -78,11 +78,11 @@ put-over (i ∷ places) (b ∷ new) (a ∷ old) changes d q =
     ∙ ap (putAt places new) (set-set changes i a b)
 
 pub same-history : (c : Cabinet) → withHistory c (historyOf c) (c .view) ≡ c
-same-history c = ap (λ (changes : List Change). record { changes = changes; order = c .order; view = c .view }) (put-back (c .changes) (c .order))
+same-history c = ap (λ (changes : List Change). record { changes = changes; order = c .order; view = c .view; cutoff = c .cutoff; kept = c .kept }) (put-back (c .changes) (c .order))
 
 pub history-again : (c : Cabinet) (h h' : History) (view view' : List ℤ) → Placed c → length h' ≡ length (historyOf c) → withHistory (withHistory c h view) h' view' ≡ withHistory c h' view'
 history-again c h h' view view' p q =
-    ap (λ (changes : List Change). record { changes = changes; order = c .order; view = view' })
+    ap (λ (changes : List Change). record { changes = changes; order = c .order; view = view'; cutoff = c .cutoff; kept = c .kept })
     (put-over (c .order) h' h (c .changes) (p .distinct) (q ∙ changesAt-length (c .changes) (c .order)))
 
 -- the history with the change of a timestamp withdrawn
@@ -166,3 +166,14 @@ pub putAt-sound : (places : List ℕ) (new changes : List Change) → AllSound n
 putAt-sound [] new changes a b = b
 putAt-sound (i ∷ places) [] changes a b = b
 putAt-sound (i ∷ places) (c ∷ new) changes a b = putAt-sound places new (set changes i c) (a .1) (set-sound changes i c b (a .0))
+
+-- ---- none stamped below a cutoff
+
+pub changesAt-under : (b : ℕ) (changes : List Change) (places : List ℕ) → Below (length changes) places → NoneUnder b (map timestamp changes) → NoneUnder b (map timestamp (changesAt changes places))
+changesAt-under b changes [] q u = tt
+changesAt-under b changes (i ∷ places) q u = (under-at b changes i u (q .0), changesAt-under b changes places (q .1) u)
+
+pub putAt-under : (b : ℕ) (places : List ℕ) (new changes : List Change) → NoneUnder b (map timestamp new) → NoneUnder b (map timestamp changes) → NoneUnder b (map timestamp (putAt places new changes))
+putAt-under b [] new changes u v = v
+putAt-under b (i ∷ places) [] changes u v = v
+putAt-under b (i ∷ places) (c ∷ new) changes u v = putAt-under b places new (set changes i c) (u .1) (set-under b changes i c v (u .0))

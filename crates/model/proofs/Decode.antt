@@ -11,7 +11,7 @@ use Rattle.machine.specs.Settings.{Entry, entries, Bounded}
 use Rattle.machine.proofs.Form.{length-fits}
 use Rattle.model.specs.History.{Change, timestamp, program, status, withdrawn, lists, tabulate}
 use Rattle.model.specs.Cabinet.{blank, historyOf}
-use Rattle.model.specs.Tables.{Tables, statusNumber, statusOf, flagNumber, flagOf, pad, column, blocks, settingsOf, valuesOf, encode, heldCount, slots, programAt, changeAt, decode}
+use Rattle.model.specs.Tables.{Tables, statusNumber, statusOf, flagNumber, flagOf, pad, column, blocks, settingsOf, valuesOf, encode, heldCount, cutoffIn, slots, programAt, changeAt, decode}
 use Rattle.model.specs.Form.{allZero, allZeroZ}
 use Rattle.model.specs.Sound.{Rising, ChangeSound, Below, Placed, Sound}
 use Rattle.model.proofs.Tabulate.{length-tabulate, getD-tabulate}
@@ -19,7 +19,7 @@ use Rattle.model.proofs.Blocks.{pad-is, column-is, blocks-is, slots-roo
 use Rattle.model.proofs.Entries.{settings-entries, values-entries, length-entries, distinct-of}
 use Rattle.model.proofs.Tests.{zeros, zerosZ, Lengths, TestedList, FormTests}
 use Rattle.model.proofs.Order.{changesAt-length, changesAt-get, rising-of, rising-distinct, below-of, placed-of}
-use Rattle.model.proofs.Tables.{all-sound}
+use Rattle.model.proofs.Tables.{all-sound, none-under}
 
 -- ---- a list of entries
 
@@ -170,6 +170,9 @@ module _ (n : ℕ) (T : Tables) (g : Lengths n T) (f : FormTests n T) where
         placed = decode-placed;
         rising = history-rising;
         viewed = g .view;
+        cut = f .cut;
+        uncut = none-under (cutoffIn T) (heldChanges T) (λ i h. let h' : i < heldCount T = rw held-length at h in rw (held-get i h') (f .uncut i h'));
+        kept-sized = g .kept;
       }
 
   -- ---- its layout
@@ -207,4 +210,6 @@ module _ (n : ℕ) (T : Tables) (g : Lengths n T) (f : FormTests n T) where
         written = blocks-back 32 (pos 0) (λ d. valuesOf (lists d .writes)) (T .written) (g .written) (λ i h. writes-laid n T g f i h .values-block) (zerosZ-from _ _ _ (g .written) (u .written)) j;
         view = T .view;
         versions = column-back (T .versions) (λ d. program d .version) refl (g .versions) (λ i h. refl) (u .versions) j;
+        cutoff = one-slot (T .cutoff) (g .cutoff) j;
+        kept = T .kept;
       }

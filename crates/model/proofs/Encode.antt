@@ -19,7 +19,7 @@ use Rattle.model.proofs.Blocks.{pad-length, column-length, column-get, 
 use Rattle.model.proofs.Entries.{distinct-fits}
 use Rattle.model.proofs.Tests.{zeros-pass, zerosZ-pass, Lengths, Head, Programmed, TestedList, Unused, FormTests}
 use Rattle.model.proofs.Order.{changesAt-length, changesAt-get, rising-next, below-at}
-use Rattle.model.proofs.Tables.{length-short, sound-at, programs-fit, reads-fit, writes-fit, settings-fit, values-fit, settings-back, timestamp-at, order-at, status-at, withdrawn-at, length-at, reads-at, writes-at, version-at, status-back, length-back, program-back}
+use Rattle.model.proofs.Tables.{length-short, sound-at, under-at, programs-fit, reads-fit, writes-fit, settings-fit, values-fit, settings-back, timestamp-at, order-at, status-at, withdrawn-at, length-at, reads-at, writes-at, version-at, status-back, length-back, program-back}
 
 -- ---- lengths, and the slots of places that are not held
 
@@ -52,6 +52,8 @@ columns n c s =
         written = rw blocks-length;
         view = s .viewed;
         versions = rw column-length;
+        cutoff = refl;
+        kept = s .kept-sized;
       },
       record {
         timestamps = rw (column-rest, zeros-pass);
@@ -154,4 +156,6 @@ form-encode n c s =
       reads = λ i h. list-form n (λ d. lists d .reads) (c .changes) i (reads-fit (c .changes) (s .each)) h refl (sound n c s i h .reads);
       writes = λ i h. list-form n (λ d. lists d .writes) (c .changes) i (writes-fit (c .changes) (s .each)) h refl (sound n c s i h .writes);
       unused = columns n c s .1;
+      cut = s .cut;
+      uncut = λ i h. rw (timestamp-at n c i) (under-at (c .cutoff) (c .changes) i (s .uncut) h);
     }

@@ -5,7 +5,7 @@ use mathlib.Core.List.{List, [], _∷_, _++_, map}
 use mathlib.Core.Option.{Option, none, some}
 use Prim.Native.Nat.{ℕ, suc, _≤_, _<_}
 use native.Mathlib.Omega.{arith}
-use borrow.Author.Tests.{ltb-true, leb-true, leb-false, eqb-true, not-false}
+use borrow.Author.Tests.{ltb-true, ltb-false, leb-true, leb-false, eqb-true, not-false}
 use lib.Dec.{eqb, ltb}
 use lib.ListN.{length}
 use Rattle.machine.specs.Instruction.{Code}
@@ -16,7 +16,7 @@ use Rattle.model.specs.declared.Answer.the-variants as answer
 use Rattle.model.specs.History.{infinity, Change, change, History}
 use Rattle.model.specs.Walk.{insert}
 use Rattle.model.specs.Cabinet.{Cabinet, historyOf, find}
-use Rattle.model.specs.Refusals.{Test, firstOf, noTimestamp, wrongProgramLength, noVersion, malformed, isHeld, heldOtherwise, full}
+use Rattle.model.specs.Refusals.{Test, firstOf, noTimestamp, belowCutoff, wrongProgramLength, noVersion, malformed, isHeld, heldOtherwise, full}
 use Rattle.model.specs.Package.{Item, taking, withdrawing}
 use Rattle.model.specs.Book.{booked, enter, strike, bookedAs, bookOf}
 use Rattle.model.specs.Calls.{answerNumber, itemRefusal, itemAccepted, itemAnswer, itemDone, ifDone, itemStep, itemAnswers, itemSteps}
@@ -65,6 +65,7 @@ done-accepted n c i e =
 pub record TakingDone (n : ℕ) (c : Cabinet) (t : ℕ) (p : Code) : Type 0 where
   pub above : 0 < t
   pub below : t < infinity
+  pub from : c .cutoff ≤ t
   pub sized : lengthFits (p .bytes) ≡ true
   pub versioned : p .version ≤ 1
   pub formed : wellFormed (p .bytes) ≡ true
@@ -78,17 +79,18 @@ not-held-none (some u) e = cc
 pub taking-done : (n : ℕ) (c : Cabinet) (t : ℕ) (p : Code) → itemAnswer n c (taking t p) ≡ answer.Done → TakingDone n c t p
 taking-done n c t p e =
     let accepted = done-accepted n c (taking t p) e in
-    let z = none-applies (noTimestamp t ∷ wrongProgramLength p ∷ noVersion p ∷ malformed p ∷ heldOtherwise c t p ∷ full n c t ∷ []) (omega arith) (accepted .0) in
+    let z = none-applies (noTimestamp t ∷ belowCutoff (c .cutoff) t ∷ wrongProgramLength p ∷ noVersion p ∷ malformed p ∷ heldOtherwise c t p ∷ full n c t ∷ []) (omega arith) (accepted .0) in
     let stamped = both (ltb 0 t) (not-false _ (z .0)) in
     let found = not-held-none (find t (historyOf c)) (accepted .1) in
     record {
       above = ltb-true 0 t (stamped .0);
       below = ltb-true t infinity (stamped .1);
-      sized = not-false (lengthFits (p .bytes)) (z .1 .0);
-      versioned = leb-true (p .version) 1 (not-false _ (z .1 .1 .0));
-      formed = not-false (wellFormed (p .bytes)) (z .1 .1 .1 .0);
+      from = omega (arith, ltb-false t (c .cutoff) (z .1 .0));
+      sized = not-false (lengthFits (p .bytes)) (z .1 .1 .0);
+      versioned = leb-true (p .version) 1 (not-false _ (z .1 .1 .1 .0));
+      formed = not-false (wellFormed (p .bytes)) (z .1 .1 .1 .1 .0);
       not-held = found;
-      room = leb-false n (length (c .changes)) (sym (and-true _) ∙ (rw found at (z .1 .1 .1 .1 .1 .0)));
+      room = leb-false n (length (c .changes)) (sym (and-true _) ∙ (rw found at (z .1 .1 .1 .1 .1 .1 .0)));
     }
 
 -- ---- answers and their numbers
@@ -109,12 +111,27 @@ number-done n c i x y =
 pub item-sound : {n : ℕ} {c : Cabinet} (i : Item) → Sound n c → Sound n (itemStep n c i)
 item-sound {n} {c} (taking t p) s =
     by-answer (Sound n) (itemAnswer n c (taking t p))
-    (λ e. let k = taking-done n c t p e in add-sound t p s (k .room) (k .above) (k .below) (k .sized) (k .versioned) (k .formed) (k .not-held)) s
+    (λ e. let k = taking-done n c t p e in add-sound t p s (k .room) (k .above) (k .below) (k .from) (k .sized) (k .versioned) (k .formed) (k .not-held)) s
 item-sound {n} {c} (withdrawing t) s = by-answer (Sound n) (itemAnswer n c (withdrawing t)) (λ e. remove-sound t s) s
 
 pub items-sound : {n : ℕ} {c : Cabinet} (items : List Item) → Sound n c → Sound n (itemSteps n c items)
 items-sound [] s = s
 items-sound (i ∷ items) s = items-sound items (item-sound i s)
+
+-- the cutoff and the kept values
+abbrev pub SameCutoff : Cabinet → Cabinet → Type 0
+SameCutoff c d = (d .cutoff ≡ c .cutoff) × (d .kept ≡ c .kept)
+
+pub item-cutoff : (n : ℕ) (c : Cabinet) (i : Item) → SameCutoff c (itemStep n c i)
+item-cutoff n c (taking t p) = by-answer (SameCutoff c) (itemAnswer n c (taking t p)) (λ e. (refl, refl)) (refl, refl)
+item-cutoff n c (withdrawing t) = by-answer (SameCutoff c) (itemAnswer n c (withdrawing t)) (λ e. (refl, refl)) (refl, refl)
+
+pub items-cutoff : (n : ℕ) (c : Cabinet) (items : List Item) → SameCutoff c (itemSteps n c items)
+items-cutoff n c [] = (refl, refl)
+items-cutoff n c (i ∷ items) =
+    let first = item-cutoff n c i in
+    let rest = items-cutoff n (itemStep n c i) items in
+    (rest .0 ∙ first .0, rest .1 ∙ first .1)
 
 pub length-itemAnswers : (n : ℕ) (c : Cabinet) (items : List Item) → length (itemAnswers n c items) ≡ length items
 length-itemAnswers n c [] = refl

@@ -14,15 +14,15 @@ use Rattle.machine.specs.Instruction.{Code}
 use Rattle.machine.specs.Form.{lengthFits, wellFormed}
 use Rattle.machine.specs.Run.{run}
 use Rattle.machine.proofs.Cases.{by-test, impossible}
-use Rattle.model.specs.History.{infinity, start, New, Valid, Invalid, Lists, empty, runLists, Change, change, timestamp, History, asOf, allHold}
+use Rattle.model.specs.History.{infinity, New, Valid, Invalid, Lists, empty, runLists, Change, change, timestamp, History, asOf, allHold}
 use Rattle.model.specs.Figure.{Event, ran, cleared, Step, idle, turned, lowestWaiting, markUpdate, markFuture, changeset, replace, install, rerun, execute, roundAt, round}
 use Rattle.model.specs.Drain.{drainNone, drainStep, drainFor, drainHistory}
 use Rattle.model.specs.Walk.{insert}
-use Rattle.model.specs.Cabinet.{Cabinet, historyOf, withHistory, find, add, flag, remove}
+use Rattle.model.specs.Cabinet.{Cabinet, keptIn, historyOf, withHistory, find, add, flag, remove}
 use Rattle.model.specs.Calls.{roundOf, drainOf}
-use Rattle.model.specs.Sound.{Rising, ChangeSound, AllSound, Sound}
-use Rattle.model.proofs.Sound.{new-sound, stood-sound, ran-sound, cleared-sound, marked-sound, flag-sound, map-sound, append-sound}
-use Rattle.model.proofs.Cabinet.{length-putAt, withHistory-history, withHistory-placed, withdrawIn, add-history, add-placed, changesAt-sound, putAt-sound}
+use Rattle.model.specs.Sound.{Rising, ChangeSound, AllSound, NoneUnder, Sound}
+use Rattle.model.proofs.Sound.{new-sound, stood-sound, ran-sound, cleared-sound, marked-sound, flag-sound, map-sound, append-sound, append-under}
+use Rattle.model.proofs.Cabinet.{length-putAt, withHistory-history, withHistory-placed, withdrawIn, add-history, add-placed, changesAt-sound, putAt-sound, changesAt-under, putAt-under}
 
 -- ---- what is kept
 
@@ -154,6 +154,9 @@ withdraw-keeps t h view =
 pub history-sound : {n : ℕ} {c : Cabinet} → Sound n c → AllSound (historyOf c)
 history-sound {c = c} s = changesAt-sound (c .changes) (c .order) (s .placed .below) (s .each)
 
+pub history-uncut : {n : ℕ} {c : Cabinet} → Sound n c → NoneUnder (c .cutoff) (map timestamp (historyOf c))
+history-uncut {c = c} s = changesAt-under (c .cutoff) (c .changes) (c .order) (s .placed .below) (s .uncut)
+
 pub withHistory-sound : {n : ℕ} {c : Cabinet} {h : History} {view : List ℤ} → Sound n c → Keeps (historyOf c) (c .view) h view → Sound n (withHistory c h view)
 withHistory-sound {c = c} {h} {view} s k =
     record {
@@ -164,13 +167,16 @@ withHistory-sound {c = c} {h} {view} s k =
       placed = withHistory-placed c h view (s .placed);
       rising = rw (withHistory-history c h view (s .placed) (keeps-length k)) (keeps-rising 0 k (s .rising));
       viewed = k .viewed (s .viewed);
+      cut = s .cut;
+      uncut = putAt-under (c .cutoff) (c .order) h (c .changes) (rw (k .timestamps) (history-uncut s)) (s .uncut);
+      kept-sized = s .kept-sized;
     }
 
 pub round-sound : {n : ℕ} {c : Cabinet} {h : History} {view : List ℤ} {e : Event} → Sound n c → roundOf c ≡ turned h view e → Sound n (withHistory c h view)
-round-sound {c = c} s q = withHistory-sound s (rw q at (round-keeps start (historyOf c) (c .view)))
+round-sound {c = c} s q = withHistory-sound s (rw q at (round-keeps (keptIn c) (historyOf c) (c .view)))
 
 pub drain-sound : {n : ℕ} {c : Cabinet} → Sound n c → Sound n (withHistory c (drainOf c .history) (drainOf c .view))
-drain-sound {c = c} s = withHistory-sound s (drain-keeps start (historyOf c) (c .view))
+drain-sound {c = c} s = withHistory-sound s (drain-keeps (keptIn c) (historyOf c) (c .view))
 
 pub remove-sound : {n : ℕ} {c : Cabinet} (t : ℕ) → Sound n c → Sound n (remove t c)
 remove-sound {c = c} t s = withHistory-sound s (withdraw-keeps t (historyOf c) (c .view))
@@ -193,8 +199,8 @@ insert-rising t p i b (c ∷ h) l f r =
     let above : timestamp c < t = omega (arith, ltb-false t (timestamp c) q) in
     (r .0, r .1, insert-rising t p i (timestamp c) h above (rest .1) (r .2)))
 
-pub add-sound : {n : ℕ} {c : Cabinet} (t : ℕ) (p : Code) → Sound n c → length (c .changes) < n → 0 < t → t < infinity → lengthFits (p .bytes) ≡ true → p .version ≤ 1 → wellFormed (p .bytes) ≡ true → find t (historyOf c) ≡ none → Sound n (add t p c)
-add-sound {c = c} t p s room above below sized versioned formed free =
+pub add-sound : {n : ℕ} {c : Cabinet} (t : ℕ) (p : Code) → Sound n c → length (c .changes) < n → 0 < t → t < infinity → c .cutoff ≤ t → lengthFits (p .bytes) ≡ true → p .version ≤ 1 → wellFormed (p .bytes) ≡ true → find t (historyOf c) ≡ none → Sound n (add t p c)
+add-sound {c = c} t p s room above below from sized versioned formed free =
     record {
       some-capacity = s .some-capacity;
       capacity = s .capacity;
@@ -203,4 +209,7 @@ add-sound {c = c} t p s room above below sized versioned formed free =
       placed = add-placed t p c (s .placed);
       rising = rw (add-history t p c (s .placed)) (insert-rising t p below 0 (historyOf c) above free (s .rising));
       viewed = s .viewed;
+      cut = s .cut;
+      uncut = append-under (c .cutoff) (c .changes) (change t p New false empty) (s .uncut) from;
+      kept-sized = s .kept-sized;
     }

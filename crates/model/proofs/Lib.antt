@@ -13,6 +13,7 @@ pub mod AsOf
 pub mod Round
 pub mod Drains
 pub mod Figure
+pub mod Cutoff
 pub mod Blocks
 pub mod Entries
 pub mod Tests

@@ -1,12 +1,12 @@
 -- Laws of places and of the order list.
-use mathlib.Core.Path.{_≡_, refl, sym, ap}
+use mathlib.Core.Path.{_≡_, refl, sym, ap, _∙_}
 use mathlib.Core.Bool.{cond}
 use mathlib.Core.List.{List, [], _∷_}
 use mathlib.Core.Logic.{_⊎_, inl, inr}
-use Prim.Native.Nat.{ℕ, zero, suc, _≤_, _<_}
+use Prim.Native.Nat.{ℕ, zero, suc, _+_, _≤_, _<_}
 use native.Mathlib.Decide.{ℕ-discrete}
 use native.Mathlib.Omega.{arith}
-use borrow.Author.Tests.{eqb-true, eqb-false}
+use borrow.Author.Tests.{eqb-true, eqb-false, eq-eqb, ne-eqb}
 use lib.Dec.{eqb}
 use lib.ListN.{length, getD}
 use Rattle.machine.proofs.Cases.{by-test}
@@ -88,17 +88,17 @@ module _ (m : ℕ) where
       by-test (Below m) (eqb i m) (λ t. without-below places (b .1))
       (λ t. let ne : i ≡ m → ⊥ = eqb-false i m t in (omega arith, without-below places (b .1)))
 
-  without-none : (places : List ℕ) → NotIn m places → length places ≤ length (without m places)
-  without-none [] h = omega arith
+  without-none : (places : List ℕ) → NotIn m places → without m places ≡ places
+  without-none [] h = refl
   without-none (i ∷ places) h =
-      by-test (λ l. suc (length places) ≤ length l) (eqb i m) (λ t. absurd (h .0 (sym (eqb-true i m t)))) (λ t. let ih = without-none places (h .1) in omega arith)
+      by-test (_≡ i ∷ places) (eqb i m) (λ t. absurd (h .0 (sym (eqb-true i m t)))) (λ t. ap (i ∷_) (without-none places (h .1)))
 
   -- at most one is left out
   without-length : (places : List ℕ) → AllDistinct places → length places ≤ suc (length (without m places))
   without-length [] d = omega arith
   without-length (i ∷ places) d =
       by-test (λ l. suc (length places) ≤ suc (length l)) (eqb i m)
-      (λ t. let e : i ≡ m = eqb-true i m t in let q = without-none places (rw e at (d .0)) in omega arith)
+      (λ t. let e : i ≡ m = eqb-true i m t in let q = ap length (without-none places (rw e at (d .0))) in omega arith)
       (λ t. let ih = without-length places (d .1) in omega arith)
 
 at-most : (n : ℕ) (places : List ℕ) → AllDistinct places → Below n places → length places ≤ n
@@ -127,3 +127,31 @@ all-places n places d b e i h = go (in-or-not i places)
 -- so that an order list of distinct held places, as many as are held, has every one
 pub placed-of : (c : Cabinet) → length (c .order) ≡ length (c .changes) → Below (length (c .changes)) (c .order) → AllDistinct (c .order) → Placed c
 placed-of c e b d = record { counted = e; below = b; distinct = d; covers = all-places (length (c .changes)) (c .order) d b e }
+
+-- ---- a sum over n distinct places below n
+
+not-there : (i m : ℕ) (places : List ℕ) → NotIn i places → In m places → ¬ (i ≡ m)
+not-there i m (j ∷ places) n (inl e) q = n .0 (q ∙ e)
+not-there i m (j ∷ places) n (inr h) q = not-there i m places (n .1) h q
+
+module _ (weight : ℕ → ℕ) where
+  abbrev pub sumOver : List ℕ → ℕ
+  sumOver [] = 0
+  sumOver (i ∷ places) = weight i + sumOver places
+
+  sum-without : (m : ℕ) (places : List ℕ) → In m places → AllDistinct places → sumOver places ≡ weight m + sumOver (without m places)
+  sum-without m (i ∷ places) (inl e) d =
+      rw (e, eq-eqb i i refl, without-none i places (d .0))
+  sum-without m (i ∷ places) (inr h) d =
+      let rest = sum-without m places h (d .1) in
+      rw (ne-eqb i m (not-there i m places (d .0) h)) (omega (arith, rest))
+
+  -- it goes by n alone
+  pub sum-places : (total : ℕ → ℕ) → total 0 ≡ 0 → (n : ℕ) → ((m : ℕ) → m < n → total (suc m) ≡ weight m + total m) → (places : List ℕ) → AllDistinct places → Below n places → length places ≡ n → sumOver places ≡ total n
+  sum-places total z zero next [] d b e = sym z
+  sum-places total z zero next (i ∷ places) d b e = absurd (omega arith)
+  sum-places total z (suc n) next places d b e =
+      let others = without n places in
+      let fewer = at-most n others (without-distinct n places d) (without-below n places b) in
+      let rest = sum-places total z n (λ m h. next m (omega arith)) others (without-distinct n places d) (without-below n places b) (omega (arith, fewer, without-length n places d)) in
+      omega (arith, sum-without n places (all-places (suc n) places d b e n (omega arith)) d, rest, next n (omega arith))

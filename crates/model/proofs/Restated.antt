@@ -24,7 +24,7 @@ module _ (n : ℕ) (c : Cabinet) (i : ℕ) (h : i < length (c .changes)) (new : 
   same : {B : Type 0} (g : ℕ → Code → Lists → B) → map (λ d. g (timestamp d) (program d) (lists d)) changes' ≡ map (λ d. g (timestamp d) (program d) (lists d)) (c .changes)
   same g = map-set-same (λ d. g (timestamp d) (program d) (lists d)) (c .changes) i new blank (rw (r .stamped, r .programmed, r .listed))
 
-  pub restated : encode n (record { changes = changes'; order = c .order; view = c .view }) ≡ withWithdrawing (encode n c) (set (encode n c .status) i (statusNumber (status new))) (set (encode n c .withdrawn) i (flagNumber (withdrawn new)))
+  pub restated : encode n (record { changes = changes'; order = c .order; view = c .view; cutoff = c .cutoff; kept = c .kept }) ≡ withWithdrawing (encode n c) (set (encode n c .status) i (statusNumber (status new))) (set (encode n c .withdrawn) i (flagNumber (withdrawn new)))
   unfolding encode
   restated =
       let held = ap (_∷ []) (length-set (c .changes) i new) in
@@ -40,4 +40,4 @@ module _ (n : ℕ) (c : Cabinet) (i : ℕ) (h : i < length (c .changes)) (new : 
       let targets = blocks-same n 32 0 (λ d. settingsOf (lists d .writes)) changes' (c .changes) (same (λ t p l. settingsOf (l .writes))) in
       let written = blocks-same n 32 (pos 0) (λ d. valuesOf (lists d .writes)) changes' (c .changes) (same (λ t p l. valuesOf (l .writes))) in
       let versions = ap (pad n 0) (same (λ t p l. p .version)) in
-      λ j. tables (held j) (timestamps j) (encode n c .order) (status j) (withdrawn j) (lengths j) (programs j) (reads j) (writes j) (sources j) (seen j) (targets j) (written j) (c .view) (versions j)
+      λ j. tables (held j) (timestamps j) (encode n c .order) (status j) (withdrawn j) (lengths j) (programs j) (reads j) (writes j) (sources j) (seen j) (targets j) (written j) (c .view) (versions j) (encode n c .cutoff) (c .kept)

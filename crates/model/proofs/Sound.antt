@@ -1,4 +1,4 @@
--- Laws of sound changes: what keeps a change sound, and lists of sound changes.
+-- Laws of sound changes: what keeps a change sound, lists of sound changes, and lists of which none is stamped below a cutoff.
 use mathlib.Core.Path.{_≡_, refl}
 use mathlib.Core.Bool.{Bool, true, false}
 use mathlib.Core.List.{List, [], _∷_, _++_, map}
@@ -8,10 +8,10 @@ use lib.ListN.{length, getD, set}
 use Rattle.machine.specs.Settings.{Environment, Distinct, Bounded}
 use Rattle.machine.specs.Instruction.{Code}
 use Rattle.machine.specs.Form.{lengthFits, wellFormed}
-use Rattle.model.specs.History.{infinity, Status, New, Valid, Invalid, Lists, empty, runLists, Change, change}
+use Rattle.model.specs.History.{infinity, Status, New, Valid, Invalid, Lists, empty, runLists, Change, change, timestamp}
 use Rattle.model.specs.Figure.{mark, markUpdate}
 use Rattle.model.specs.Cabinet.{blank, unsettled, flag}
-use Rattle.model.specs.Sound.{ChangeSound, AllSound}
+use Rattle.model.specs.Sound.{ChangeSound, AllSound, NoneUnder}
 use Rattle.model.proofs.Programs.{runLists-bounded}
 
 -- ---- a sound change
@@ -87,3 +87,23 @@ pub set-sound : (changes : List Change) (i : ℕ) (c : Change) → AllSound chan
 set-sound [] i c a s = tt
 set-sound (d ∷ changes) zero c a s = (s, a .1)
 set-sound (d ∷ changes) (suc i) c a s = (a .0, set-sound changes i c (a .1) s)
+
+-- ---- none stamped below a cutoff
+
+pub none-under : (b : ℕ) (changes : List Change) → ((i : ℕ) → i < length changes → b ≤ timestamp (getD changes i blank)) → NoneUnder b (map timestamp changes)
+none-under b [] h = tt
+none-under b (c ∷ changes) h = (h 0 (omega arith), none-under b changes (λ i q. h (suc i) (omega arith)))
+
+pub under-at : (b : ℕ) (changes : List Change) (i : ℕ) → NoneUnder b (map timestamp changes) → i < length changes → b ≤ timestamp (getD changes i blank)
+under-at b [] i u h = absurd (omega arith)
+under-at b (c ∷ changes) zero u h = u .0
+under-at b (c ∷ changes) (suc i) u h = under-at b changes i (u .1) (omega arith)
+
+pub append-under : (b : ℕ) (changes : List Change) (c : Change) → NoneUnder b (map timestamp changes) → b ≤ timestamp c → NoneUnder b (map timestamp (changes ++ (c ∷ [])))
+append-under b [] c u q = (q, tt)
+append-under b (d ∷ changes) c u q = (u .0, append-under b changes c (u .1) q)
+
+pub set-under : (b : ℕ) (changes : List Change) (i : ℕ) (c : Change) → NoneUnder b (map timestamp changes) → b ≤ timestamp c → NoneUnder b (map timestamp (set changes i c))
+set-under b [] i c u q = tt
+set-under b (d ∷ changes) zero c u q = (q, u .1)
+set-under b (d ∷ changes) (suc i) c u q = (u .0, set-under b changes i c (u .1) q)

@@ -1,5 +1,5 @@
 -- The start values: those of the table, and by their rule.
-use mathlib.Core.Path.{_≡_, refl, sym, ap, _∙_}
+use mathlib.Core.Path.{_≡_, refl, _∙_}
 use mathlib.Core.Bool.{cond}
 use Prim.Native.Nat.{ℕ, _+_, _*_, _≤_, _<_}
 use native.Mathlib.Omega.{arith}
@@ -9,8 +9,8 @@ use lib.ListN.{List·getD-eq-default}
 use Rattle.start_values.specs.StartValues.{startTable, startRule}
 use Rattle.start_values.proofs.Rule.{table-at, table-field, length-table}
 use Rattle.machine.specs.Settings.{settingCount, valueIn}
-use Rattle.model.specs.History.{start, tabulate, allSettings}
-use Rattle.model.proofs.Tabulate.{tabulate-is}
+use Rattle.model.specs.History.{start, allSettings}
+use Rattle.model.proofs.Values.{all-value}
 
 pub start-at : (s : ℕ) → start s ≡ valueIn startTable s
 unfolding start
@@ -22,7 +22,8 @@ start-past s h = start-at s ∙ List·getD-eq-default startTable (pos 0) (omega 
 
 -- all of them
 pub all-start : allSettings start ≡ startTable
-all-start = ap (λ (n : ℕ). tabulate n start) (sym length-table) ∙ tabulate-is startTable start (pos 0) (λ s h. start-at s)
+unfolding start
+all-start = all-value startTable length-table
 
 -- document 02, R-1: "Every setting of field 2 now starts at 1 and all others at 0."
 pub start-rule : (s : ℕ) → s < settingCount → start s ≡ startRule s

@@ -14,7 +14,7 @@ use Rattle.model.specs.History.{Status, New, Valid, Invalid, Change, cha
 use Rattle.model.specs.Cabinet.{Cabinet, blank}
 use Rattle.model.specs.Tables.{statusNumber, statusOf, flagNumber, flagOf, column, blocks, settingsOf, valuesOf, encode, heldCount, slots, programAt, readsAt, writesAt, changeAt, decode}
 use Rattle.model.specs.Sound.{ChangeSound, AllSound, Sound}
-pub use Rattle.model.proofs.Sound.{sound-at, all-sound}
+pub use Rattle.model.proofs.Sound.{sound-at, all-sound, none-under, under-at}
 use Rattle.model.proofs.Tabulate.{tabulate-is}
 use Rattle.model.proofs.Blocks.{pad-get, column-get, Fits, blocks-slots}
 use Rattle.model.proofs.Entries.{entries-take, entries-columns}
@@ -141,6 +141,6 @@ module _ (n : ℕ) (c : Cabinet) (s : Sound n c) (i : ℕ) (h : i < length (c .c
 pub decode-encode : (n : ℕ) (c : Cabinet) → Sound n c → decode (encode n c) ≡ c
 unfolding encode decode
 decode-encode n c s =
-    ap₂ (λ (changes : List Change) (order : List ℕ). record { changes = changes; order = order; view = c .view })
+    ap₂ (λ (changes : List Change) (order : List ℕ). record { changes = changes; order = order; view = c .view; cutoff = c .cutoff; kept = c .kept })
     (tabulate-is (c .changes) (changeAt (encode n c)) blank (change-back n c s))
     (take-at (c .order) _ (length (c .changes)) (s .placed .counted))

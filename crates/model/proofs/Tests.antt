@@ -15,7 +15,7 @@ use Rattle.machine.specs.Form.{wellFormed}
 use Rattle.machine.proofs.Cases.{both, either}
 use Rattle.machine.proofs.Form.{all-below, below-all}
 use Rattle.model.specs.History.{infinity, isTimestamp}
-use Rattle.model.specs.Tables.{Tables, heldCount, slots, programAt}
+use Rattle.model.specs.Tables.{Tables, heldCount, cutoffIn, slots, programAt}
 use Rattle.model.specs.Form.{every, lengthsFit, allZero, allZeroZ, restOf, headFits, programFits, distinctSettings, listFits, timestampOf, orderFits, unusedFits, inForm, lengthTests, unusedTests, formTests}
 
 -- ---- several tests
@@ -71,6 +71,8 @@ pub record Lengths (n : ℕ) (T : Tables) : Type 0 where
   pub written : length (T .written) ≡ 32 * n
   pub view : length (T .view) ≡ settingCount
   pub versions : length (T .versions) ≡ n
+  pub cutoff : length (T .cutoff) ≡ 1
+  pub kept : length (T .kept) ≡ settingCount
 
 pub lengths-of : (n : ℕ) (T : Tables) → lengthsFit n T ≡ true → Lengths n T
 unfolding lengthsFit
@@ -94,12 +96,14 @@ lengths-of n T e =
       written = eqb-true _ _ (test 14);
       view = eqb-true _ _ (test 15);
       versions = eqb-true _ _ (test 16);
+      cutoff = eqb-true _ _ (test 17);
+      kept = eqb-true _ _ (test 18);
     }
 
 pub lengths-fit : (n : ℕ) (T : Tables) → Lengths n T → lengthsFit n T ≡ true
 unfolding lengthsFit
 lengths-fit n T g =
-    rw (le-leb _ _ (g .some-capacity), le-leb _ _ (g .capacity), eq-eqb _ _ (g .held), eq-eqb _ _ (g .timestamps), eq-eqb _ _ (g .order), eq-eqb _ _ (g .status), eq-eqb _ _ (g .withdrawn), eq-eqb _ _ (g .lengths), eq-eqb _ _ (g .programs), eq-eqb _ _ (g .reads), eq-eqb _ _ (g .writes), eq-eqb _ _ (g .sources), eq-eqb _ _ (g .seen), eq-eqb _ _ (g .targets), eq-eqb _ _ (g .written), eq-eqb _ _ (g .view), eq-eqb _ _ (g .versions))
+    rw (le-leb _ _ (g .some-capacity), le-leb _ _ (g .capacity), eq-eqb _ _ (g .held), eq-eqb _ _ (g .timestamps), eq-eqb _ _ (g .order), eq-eqb _ _ (g .status), eq-eqb _ _ (g .withdrawn), eq-eqb _ _ (g .lengths), eq-eqb _ _ (g .programs), eq-eqb _ _ (g .reads), eq-eqb _ _ (g .writes), eq-eqb _ _ (g .sources), eq-eqb _ _ (g .seen), eq-eqb _ _ (g .targets), eq-eqb _ _ (g .written), eq-eqb _ _ (g .view), eq-eqb _ _ (g .versions), eq-eqb _ _ (g .cutoff), eq-eqb _ _ (g .kept))
 
 -- ---- form, by place
 
@@ -228,6 +232,8 @@ pub record FormTests (n : ℕ) (T : Tables) : Type 0 where
   pub reads : (i : ℕ) → i < heldCount T → TestedList (T .reads) (T .sources) (T .seen) i
   pub writes : (i : ℕ) → i < heldCount T → TestedList (T .writes) (T .targets) (T .written) i
   pub unused : Unused T (heldCount T)
+  pub cut : cutoffIn T < infinity
+  pub uncut : (i : ℕ) → i < heldCount T → cutoffIn T ≤ getD (T .timestamps) i 0
 
 pub form-of : (n : ℕ) (T : Tables) → inForm n T ≡ true → FormTests n T
 unfolding inForm
@@ -243,6 +249,8 @@ form-of n T e =
       reads = λ i h. list-of (T .reads) (T .sources) (T .seen) i (all-below _ _ (test 4) i h);
       writes = λ i h. list-of (T .writes) (T .targets) (T .written) i (all-below _ _ (test 5) i h);
       unused = unused-of T k (test 6);
+      cut = ltb-true _ _ (test 7);
+      uncut = λ i h. leb-true _ _ (all-below _ _ (test 8) i h);
     }
 
 pub form-fits : (n : ℕ) (T : Tables) → FormTests n T → inForm n T ≡ true
@@ -254,4 +262,5 @@ form-fits n T f =
     let programs = below-all k _ (λ i h. program-fits T i (f .programs i h)) in
     let reads = below-all k _ (λ i h. list-fits (T .reads) (T .sources) (T .seen) i (f .reads i h)) in
     let writes = below-all k _ (λ i h. list-fits (T .writes) (T .targets) (T .written) i (f .writes i h)) in
-    rw (le-leb _ _ (f .small), heads, order, programs, reads, writes, unused-fits T k (f .unused))
+    let uncut = below-all k _ (λ i h. le-leb _ _ (f .uncut i h)) in
+    rw (le-leb _ _ (f .small), heads, order, programs, reads, writes, unused-fits T k (f .unused), lt-ltb _ _ (f .cut), uncut)

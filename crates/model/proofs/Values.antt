@@ -1,16 +1,20 @@
 -- Laws of the test of equal values and of the 1,024 values of an environment.
 use mathlib.Core.Path.{_≡_, refl, sym, ap, _∙_}
 use mathlib.Core.Bool.{Bool, true, false}
-use Prim.Native.Nat.{ℕ, _<_}
+use mathlib.Core.List.{List}
+use Prim.Native.Nat.{ℕ, _≤_, _<_}
+use native.Mathlib.Decide.{decLt}
+use native.Mathlib.Omega.{arith}
 use borrow.Author.Tests.{eqb-true, eqb-false, eq-eqb, ne-eqb}
 use lib.Dec.{eqb}
 use lib.IntN.{ℤ, pos, negsuc}
+use lib.ListN.{length, List·getD-eq-default}
 use mir.Facts.{toZ-ofZ}
 use mir.Syntax.{w32}
 use mir.Val.{SFits, toZ, ofZ}
 use Rattle.machine.specs.Settings.{settingCount, Environment, valueIn}
-use Rattle.model.specs.History.{allSettings, eqZ}
-use Rattle.model.proofs.Tabulate.{getD-tabulate, tabulate-is}
+use Rattle.model.specs.History.{tabulate, allSettings, eqZ}
+use Rattle.model.proofs.Tabulate.{length-tabulate, getD-tabulate, tabulate-is}
 
 pub eqZ-true : (u v : ℤ) → eqZ u v ≡ true → u ≡ v
 eqZ-true (pos m) (pos n) h = ap pos (eqb-true m n h)
@@ -55,3 +59,15 @@ value-allSettings env s h = getD-tabulate settingCount env s (pos 0) h
 -- environments that agree on every setting have the same values
 pub allSettings-same : (env env' : Environment) → ((s : ℕ) → s < settingCount → env s ≡ env' s) → allSettings env ≡ allSettings env'
 allSettings-same env env' h = tabulate-is (allSettings env') env (pos 0) (λ s q. h s q ∙ sym (value-allSettings env' s q))
+
+-- a list of as many values is that of the environment that it gives
+pub all-value : (values : List ℤ) → length values ≡ settingCount → allSettings (valueIn values) ≡ values
+all-value values e = ap (λ (n : ℕ). tabulate n (valueIn values)) (sym e) ∙ tabulate-is values (valueIn values) (pos 0) (λ s h. refl)
+
+-- that environment itself, if it is 0 past the last setting
+pub value-all : (env : Environment) → ((s : ℕ) → settingCount ≤ s → env s ≡ pos 0) → valueIn (allSettings env) ≡ env
+value-all env past = λ j s. at s (decLt s settingCount) j
+  where
+    at : (s : ℕ) → Dec (s < settingCount) → valueIn (allSettings env) s ≡ env s
+    at s (yes h) = value-allSettings env s h
+    at s (no h) = List·getD-eq-default (allSettings env) (pos 0) {n = s} (omega (arith, length-tabulate settingCount env)) ∙ sym (past s (omega arith))

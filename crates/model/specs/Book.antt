@@ -1,7 +1,7 @@
--- The book of held changes, the fresh run over it (document 01, "Demand 3 spelled out"), and the items that give it (document 02, R-3).
+-- The book of held changes, the fresh run over it (document 01, "Demand 3 spelled out"), the items that give it (document 02, R-3), and what a cutoff takes out of it (document 02, R-7).
 use mathlib.Core.Bool.{Bool, true, false, cond}
 use mathlib.Core.List.{List, [], _∷_, _++_, map}
-use Prim.Native.Nat.{ℕ}
+use Prim.Native.Nat.{ℕ, _<_}
 use lib.Dec.{eqb, ltb}
 use Rattle.machine.specs.Settings.{Environment, after}
 use Rattle.machine.specs.Instruction.{Code}
@@ -61,6 +61,22 @@ freshEnd (b ∷ book) env = freshEnd book (freshAfter b env)
 abbrev pub freshBefore : ℕ → Book → Environment → Environment
 freshBefore t [] env = env
 freshBefore t (b ∷ book) env = cond (ltb (bookedAt b) t) (freshBefore t book (freshAfter b env)) env
+
+-- ---- a cutoff: "takes every change stamped below it out of the book too" (document 02, R-7)
+
+-- the changes that it takes out, and those that stay
+abbrev pub bookBelow : ℕ → Book → Book
+bookBelow t [] = []
+bookBelow t (b ∷ book) = cond (ltb (bookedAt b) t) (b ∷ bookBelow t book) (bookBelow t book)
+
+abbrev pub bookFrom : ℕ → Book → Book
+bookFrom t [] = []
+bookFrom t (b ∷ book) = cond (ltb (bookedAt b) t) (bookFrom t book) (b ∷ bookFrom t book)
+
+-- timestamps rise above a bound
+abbrev pub RisingBook : ℕ → Book → Type 0
+RisingBook a [] = Unit {0}
+RisingBook a (b ∷ book) = (a < bookedAt b) × RisingBook (bookedAt b) book
 
 -- ---- as items of a package
 

@@ -20,12 +20,12 @@ use Rattle.model.specs.declared.Standing.{Standing}
 use Rattle.model.specs.declared.Standing.the-variants as standing-answer
 use Rattle.model.specs.declared.Packed.{Packed}
 use Rattle.model.specs.declared.Packed.the-variants as packed-answer
-use Rattle.model.specs.History.{start, Change, status, withdrawn, asOf, allSettings}
+use Rattle.model.specs.History.{Change, status, withdrawn, asOf, allSettings}
 use Rattle.model.specs.Figure.{Event, ran, stood, cleared, Step, idle, turned, round}
 use Rattle.model.specs.Drain.{Drain, drainHistory, totalCount, totals}
-use Rattle.model.specs.Cabinet.{Cabinet, emptyCabinet, historyOf, withHistory, find, add, remove}
-use Rattle.model.specs.Tables.{Tables, statusNumber, flagNumber, encode, decode}
-use Rattle.model.specs.Refusals.{test, firstOf, wrongLengths, wrongLength, notInForm, faultOf, noTimestamp, noTime, noSetting, wrongProgramLength, noVersion, malformed, isHeld, heldOtherwise, full, notHeld, withdrawnAlready, noRoom}
+use Rattle.model.specs.Cabinet.{Cabinet, emptyCabinet, keptIn, historyOf, withHistory, find, add, remove, cutAt}
+use Rattle.model.specs.Tables.{Tables, statusNumber, flagNumber, encode, cutoffIn, decode}
+use Rattle.model.specs.Refusals.{test, firstOf, wrongLengths, wrongLength, notInForm, faultOf, noTimestamp, noTime, belowCutoff, noSetting, wrongProgramLength, noVersion, malformed, isHeld, heldOtherwise, full, notHeld, withdrawnAlready, unsettledBelow, noRoom}
 use Rattle.model.specs.Package.{Item, taking, withdrawing, layoutFits, itemsOf, packageOf}
 use Rattle.model.specs.Book.{bookOf, freshEnd, bookedItems}
 
@@ -95,7 +95,7 @@ unlessRead r refusal done = cond (eqb r 0) done (refusal r)
 
 -- ---- set up
 
--- every table to 0, the view to the start
+-- every table to 0, the view and the kept values to the start
 unfoldable pub setUp : ℕ → Tables → Reply Answer
 setUp n T =
     unless (firstOf (wrongLengths n T ∷ [])) answer.Refused T
@@ -106,8 +106,8 @@ setUp n T =
 -- the refusal of an item on tables in form
 abbrev pub itemRefusal : ℕ → Cabinet → Item → ℕ
 itemRefusal n c (taking t p) =
-    firstOf (noTimestamp t ∷ wrongProgramLength p ∷ noVersion p ∷ malformed p ∷ heldOtherwise c t p ∷ full n c t ∷ [])
-itemRefusal n c (withdrawing t) = firstOf (noTimestamp t ∷ notHeld c t ∷ withdrawnAlready c t ∷ [])
+    firstOf (noTimestamp t ∷ belowCutoff (c .cutoff) t ∷ wrongProgramLength p ∷ noVersion p ∷ malformed p ∷ heldOtherwise c t p ∷ full n c t ∷ [])
+itemRefusal n c (withdrawing t) = firstOf (noTimestamp t ∷ belowCutoff (c .cutoff) t ∷ notHeld c t ∷ withdrawnAlready c t ∷ [])
 
 -- its answer, where it is not refused: the same timestamp with the same program is held already
 abbrev pub itemAccepted : Cabinet → Item → Answer
@@ -174,6 +174,15 @@ takeInPackage n T bytes answers =
     })
     (record { answer = answer.Refused r; tables = T; answers = answers })
 
+-- ---- cutoff
+
+-- document 02, R-7: "a cutoff drops every change stamped below it and keeps each setting's value as of it"; "a new cutoff is a timestamp to refusal 4 too"
+unfoldable pub raiseCutoff : ℕ → Tables → ℕ → Reply Answer
+raiseCutoff n T t =
+    let c = decode T in
+    unless (firstOf (wrongLengths n T ∷ notInForm n T ∷ noTimestamp t ∷ belowCutoff (c .cutoff) t ∷ unsettledBelow c t ∷ [])) answer.Refused T
+    (record { answer = answer.Done; tables = encode n (cutAt t c) })
+
 -- ---- turn, drain
 
 -- document 02, R-2: "A turn answers faulted with the place instead of ran in that case"; the place is that of the instruction that broke off, from 0
@@ -192,7 +201,7 @@ stepReply n T c (turned h view e) = record { answer = eventAnswer e; tables = en
 
 -- the round of a cabinet
 abbrev pub roundOf : Cabinet → Step
-roundOf c = round start (historyOf c) (c .view)
+roundOf c = round (keptIn c) (historyOf c) (c .view)
 
 unfoldable pub turn : ℕ → Tables → Reply Turned
 turn n T =
@@ -200,7 +209,7 @@ turn n T =
     (stepReply n T (decode T) (roundOf (decode T)))
 
 abbrev pub drainOf : Cabinet → Drain
-drainOf c = drainHistory start (historyOf c) (c .view)
+drainOf c = drainHistory (keptIn c) (historyOf c) (c .view)
 
 -- turns until idle: the tables that a drain leaves, whatever is lent for the totals. The call, with its totals, is `drainWithTotals`
 unfoldable pub drain : ℕ → Tables → Reply Answer
@@ -234,11 +243,11 @@ currentValue n T s =
     unlessRead (firstOf (wrongLengths n T ∷ notInForm n T ∷ noSetting s ∷ [])) value-answer.Refused
     (value-answer.Is (valueIn (T .view) s))
 
--- the highest write stamped below it, else the start
+-- the highest write stamped below it, else the kept value
 unfoldable pub valueAsOf : ℕ → Tables → ℕ → ℕ → Value
 valueAsOf n T t s =
-    unlessRead (firstOf (wrongLengths n T ∷ notInForm n T ∷ noTime t ∷ noSetting s ∷ [])) value-answer.Refused
-    (value-answer.Is (asOf t (historyOf (decode T)) start s))
+    unlessRead (firstOf (wrongLengths n T ∷ notInForm n T ∷ noTime t ∷ belowCutoff (cutoffIn T) t ∷ noSetting s ∷ [])) value-answer.Refused
+    (value-answer.Is (asOf t (historyOf (decode T)) (keptIn (decode T)) s))
 
 -- status and flag
 abbrev pub standingOf : Option Change → Standing
@@ -247,7 +256,7 @@ standingOf (some c) = standing-answer.At (statusNumber (status c)) (flagNumber (
 
 unfoldable pub standing : ℕ → Tables → ℕ → Standing
 standing n T t =
-    unlessRead (firstOf (wrongLengths n T ∷ notInForm n T ∷ noTimestamp t ∷ notHeld (decode T) t ∷ [])) standing-answer.Refused
+    unlessRead (firstOf (wrongLengths n T ∷ notInForm n T ∷ noTimestamp t ∷ belowCutoff (cutoffIn T) t ∷ notHeld (decode T) t ∷ [])) standing-answer.Refused
     (standingOf (find t (historyOf (decode T))))
 
 -- a plain run's reply has the lent slice of 1,024 settings: what all held changes leave, run in timestamp order, withdrawn ones passed over
@@ -261,7 +270,7 @@ plainReply a settings = record { answer = a; settings = settings }
 unfoldable pub plainRun : ℕ → Tables → List ℤ → PlainReply
 plainRun n T settings =
     let r = firstOf (wrongLength n T (length settings) settingCount ∷ notInForm n T ∷ []) in
-    cond (eqb r 0) (record { answer = answer.Done; settings = allSettings (freshEnd (bookOf (historyOf (decode T))) start) })
+    cond (eqb r 0) (record { answer = answer.Done; settings = allSettings (freshEnd (bookOf (historyOf (decode T))) (keptIn (decode T))) })
     (record { answer = answer.Refused r; settings = settings })
 
 -- ---- package out

@@ -1,4 +1,4 @@
--- Document 01's cases P1 to P11 and its package ("Cases to know"), with the start values of document 02 (R-1), carried out by the definitions of the calls; what package out writes then (R-3); totals of two consoles (R-5); and programs of version 1 (R-6). The table is proved by computation.
+-- Document 01's cases P1 to P11 and its package ("Cases to know"), with the start values of document 02 (R-1), carried out by the definitions of the calls; what package out writes then (R-3); totals of two consoles (R-5); programs of version 1 (R-6); and cutoffs (R-7). The table is proved by computation.
 use mathlib.Core.Path.{_≡_, refl}
 use mathlib.Core.Bool.{Bool, true, false, cond, _&&_}
 use mathlib.Core.List.{List, [], _∷_, _++_, map}
@@ -20,8 +20,10 @@ use Rattle.model.specs.declared.Turned.{Turned}
 use Rattle.model.specs.declared.Turned.the-variants.{Ran, Stood, Cleared, Faulted}
 use Rattle.model.specs.declared.Value.{Value}
 use Rattle.model.specs.declared.Value.the-variants.{Is}
+use Rattle.model.specs.declared.Value.the-variants as value-answer
 use Rattle.model.specs.declared.Standing.{Standing}
 use Rattle.model.specs.declared.Standing.the-variants.{At}
+use Rattle.model.specs.declared.Standing.the-variants as standing-answer
 use Rattle.model.specs.declared.Packed.the-variants as packed-answer
 use Rattle.model.specs.History.{start, runLists}
 use Rattle.model.specs.Figure.{round}
@@ -30,7 +32,7 @@ use Rattle.model.specs.Tables.{Tables, pad, encode, decode}
 use Rattle.model.specs.Form.{lengthsFit, inForm}
 use Rattle.model.specs.Refusals.{sameBytes}
 use Rattle.model.specs.Package.{numberAt, countBefore, layoutFits, itemsOf, packageOf}
-use Rattle.model.specs.Calls.{Reply, setUp, itemAnswer, ifDone, takeIn, withdraw, takeInPackage, turn, drain, TotalsReply, drainWithTotals, currentValue, valueAsOf, standing, PackedReply, packedReply, packageOut}
+use Rattle.model.specs.Calls.{Reply, setUp, itemAnswer, ifDone, takeIn, withdraw, takeInPackage, raiseCutoff, turn, drain, TotalsReply, drainWithTotals, currentValue, valueAsOf, standing, PackedReply, packedReply, packageOut}
 use Rattle.model.specs.Log.{drainTurns}
 
 -- ---- programs
@@ -68,21 +70,23 @@ record Drained : Type 0 where
   answer : Answer
   placed : List (ℕ × ℕ)
 
--- a step of a script: every taking in and withdrawal is to be answered done; the entries of a package, a turn and a drain are to be answered as listed behind them
+-- a step of a script: every taking in and withdrawal is to be answered done; the entries of a package, a cutoff, a turn and a drain are to be answered as listed behind them
 data Action : Type 0 where
   takesInBy : ℕ → ℕ → Program → Action
   takesInPackage : List ℕ → List ℕ → Action
   withdraws : ℕ → Action
+  cuts : ℕ → Answer → Action
   turns : Turned → Action
   drains : List Turned → Drained → Action
 
--- what a call answers after the last drain: the current value of s, the value as of t of s, the standing of t, package out into so many zeros, a program of a version taken in with the timestamp t
+-- what a call answers after the last drain: the current value of s, the value as of t of s, the standing of t, package out into so many zeros, a program of a version taken in with the timestamp t, a cutoff at t
 data Fact : Type 0 where
   current : ℕ → Value → Fact
   asOf : ℕ → ℕ → Value → Fact
   stands : ℕ → Standing → Fact
   packs : ℕ → PackedReply → Fact
   takes : ℕ → ℕ → Program → Answer → Fact
+  cut : ℕ → Answer → Fact
 
 -- the steps before the last drain, the turns of that drain, its answer, and what holds after it
 record Case : Type 0 where
@@ -318,9 +322,63 @@ own-writes-package =
       facts = current 34 (Is (pos 5)) ∷ [];
     }
 
+-- document 02, R-7: 30, 10, 40 and 20 arrive in this order and fill the tables; drained, 20 is withdrawn. A cutoff at 30 is refused while 20 is Invalid. Once 20 is cleared it drops 10 and 20, and keeps 400 in 36, where 30 and 40 close up to places 0 and 1; 35 takes a freed place, reads 400 and makes
+-- 40 run again. 30, at the cutoff, is held; what is stamped below it meets 14, but no timestamp meets 4 first
+cut-off : Case
+cut-off =
+    record {
+      script =
+          takesIn 30 (sets 34 (pos 5))
+          ∷ takesIn 10 (sets 36 (pos 400))
+          ∷ takesIn 40 (adds 36 (pos 1))
+          ∷ takesIn 20 (subtracts 36 (pos 300))
+          ∷ drainsRunning (10 ∷ 20 ∷ 30 ∷ 40 ∷ [])
+          ∷ withdraws 20
+          ∷ cuts 30 (Refused 15)
+          ∷ drains (Cleared 20 ∷ Ran 40 ∷ []) (counted ((82, 1) ∷ (160, 1) ∷ []))
+          ∷ cuts 30 Done
+          ∷ takesIn 35 (adds 36 (pos 50))
+          ∷ [];
+      turned = Ran 35 ∷ Ran 40 ∷ [];
+      answer = counted ((140, 1) ∷ (160, 1) ∷ []);
+      facts =
+          current 36 (Is (pos 451))
+          ∷ asOf 30 36 (Is (pos 400))
+          ∷ asOf 36 36 (Is (pos 450))
+          ∷ asOf 30 34 (Is (pos 1))
+          ∷ asOf 31 34 (Is (pos 5))
+          ∷ asOf 29 36 (value-answer.Refused 14)
+          ∷ stands 30 (At 1 0)
+          ∷ stands 20 (standing-answer.Refused 14)
+          ∷ takes 0 29 [] (Refused 14)
+          ∷ takes 0 0 [] (Refused 4)
+          ∷ takes 2 29 [] (Refused 14)
+          ∷ cut 29 (Refused 14)
+          ∷ cut 30 Done
+          ∷ [];
+    }
+
+-- a later cutoff goes on from the kept values: 401, which 30 makes of the 400 that 10 left
+cut-again : Case
+cut-again =
+    record {
+      script =
+          takesIn 10 (sets 36 (pos 400))
+          ∷ drainsRunning (10 ∷ [])
+          ∷ cuts 20 Done
+          ∷ takesIn 30 (adds 36 (pos 1))
+          ∷ drainsRunning (30 ∷ [])
+          ∷ cuts 40 Done
+          ∷ takesIn 50 (copies 36 50)
+          ∷ [];
+      turned = Ran 50 ∷ [];
+      answer = counted ((200, 1) ∷ []);
+      facts = current 50 (Is (pos 401)) ∷ asOf 40 36 (Is (pos 401)) ∷ cut 20 (Refused 14) ∷ [];
+    }
+
 cases : List Case
 cases =
-    P1 ∷ P2 ∷ P3 ∷ P4 ∷ P5 ∷ P6 ∷ P7 ∷ P8 ∷ P9 ∷ P10 ∷ P11-before ∷ P11-after ∷ sample-package ∷ two-consoles ∷ own-writes ∷ no-own-writes ∷ own-writes-package ∷ []
+    P1 ∷ P2 ∷ P3 ∷ P4 ∷ P5 ∷ P6 ∷ P7 ∷ P8 ∷ P9 ∷ P10 ∷ P11-before ∷ P11-after ∷ sample-package ∷ two-consoles ∷ own-writes ∷ no-own-writes ∷ own-writes-package ∷ cut-off ∷ cut-again ∷ []
 
 -- ---- carrying it out
 
@@ -346,9 +404,11 @@ blank =
       written = replicate (32 * capacity) (pos 0);
       view = replicate settingCount (pos 0);
       versions = replicate capacity 0;
+      cutoff = 0 ∷ [];
+      kept = replicate settingCount (pos 0);
     }
 
--- the tables after some calls, whether the set up and every taking in, package and withdrawal among them was answered as it is to be, and the turns and drains among them as they were answered
+-- the tables after some calls, whether the set up and every taking in, package and withdrawal among them was answered as it is to be, and the cutoffs, turns and drains among them as they were answered
 record Progress : Type 0 where
   tables : Tables
   done : Bool
@@ -380,6 +440,9 @@ carryOut (takesInPackage bytes answers) s =
       answered = s .answered;
     }
 carryOut (withdraws t) s = follow s (withdraw capacity (s .tables) t)
+carryOut (cuts t a) s =
+    let r = raiseCutoff capacity (s .tables) t in
+    record { tables = r .tables; done = s .done; answered = s .answered ++ (cuts t (r .answer) ∷ []) }
 carryOut (turns a) s =
     let r = turn capacity (s .tables) in
     record { tables = r .tables; done = s .done; answered = s .answered ++ (turns (r .answer) ∷ []) }
@@ -395,12 +458,13 @@ carryOutAll (a ∷ script) s = carryOutAll script (carryOut a s)
 abbrev begun : Progress
 begun = follow (record { tables = blank; done = true; answered = [] }) (setUp capacity blank)
 
--- the turns and drains of a script, as they are to be answered
+-- the cutoffs, turns and drains of a script, as they are to be answered
 abbrev toAnswer : List Action → List Action
 toAnswer [] = []
 toAnswer (takesInBy version t p ∷ script) = toAnswer script
 toAnswer (takesInPackage bytes answers ∷ script) = toAnswer script
 toAnswer (withdraws t ∷ script) = toAnswer script
+toAnswer (cuts t a ∷ script) = cuts t a ∷ toAnswer script
 toAnswer (turns a ∷ script) = turns a ∷ toAnswer script
 toAnswer (drains turned a ∷ script) = drains turned a ∷ toAnswer script
 
@@ -411,8 +475,9 @@ asked T (asOf t s v) = asOf t s (valueAsOf capacity T t s)
 asked T (stands t v) = stands t (standing capacity T t)
 asked T (packs k r) = packs k (packageOut capacity T (replicate k 0))
 asked T (takes version t p a) = takes version t p (takeIn capacity T t (code version (bytesOf p)) .answer)
+asked T (cut t a) = cut t (raiseCutoff capacity T t .answer)
 
--- what carrying out a case gives: whether the script's items were answered as they are to be, its turns and drains as answered, the turns of the last drain, its answer, and the facts
+-- what carrying out a case gives: whether the script's items were answered as they are to be, its cutoffs, turns and drains as answered, the turns of the last drain, its answer, and the facts
 record Outcome : Type 0 where
   done : Bool
   answered : List Action
@@ -436,5 +501,5 @@ expected : Case → Outcome
 expected c = record { done = true; answered = toAnswer (c .script); turned = c .turned; answer = c .answer; facts = c .facts }
 
 cases-hold : map outcome cases ≡ map expected cases
-unfolding cases P1 P2 P3 P4 P5 P6 P7 P8 P9 P10 P11-before P11-after sample-package two-consoles own-writes no-own-writes own-writes-package outcome expected setUp takeIn withdraw takeInPackage turn drain drainWithTotals totals currentValue valueAsOf standing packageOut packageOf itemAnswer layoutFits itemsOf numberAt countBefore encode decode lengthsFit inForm drainHistory drainFor round start startTable runLists run runProgram runFrom step perform effect load store enter named firstValue replaceFirst lookup entries lengthFits wellFormed allBelow isWellFormed programOf instructionsFrom instructionAt shiftRight patternOf numberOf wrap floorDiv onesOf onesIn
+unfolding cases P1 P2 P3 P4 P5 P6 P7 P8 P9 P10 P11-before P11-after sample-package two-consoles own-writes no-own-writes own-writes-package cut-off cut-again outcome expected setUp takeIn withdraw takeInPackage raiseCutoff turn drain drainWithTotals totals currentValue valueAsOf standing packageOut packageOf itemAnswer layoutFits itemsOf numberAt countBefore encode decode lengthsFit inForm drainHistory drainFor round start startTable runLists run runProgram runFrom step perform effect load store enter named firstValue replaceFirst lookup entries lengthFits wellFormed allBelow isWellFormed programOf instructionsFrom instructionAt shiftRight patternOf numberOf wrap floorDiv onesOf onesIn
 cases-hold = refl

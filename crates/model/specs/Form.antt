@@ -1,4 +1,4 @@
--- Lengths of the tables, and when tables are in form (document 01, "Tables", refusals 1 and 2; document 02, R-6).
+-- Lengths of the tables, and when tables are in form (document 01, "Tables", refusals 1 and 2; document 02, R-6, R-7).
 use mathlib.Core.Path.{_≡_}
 use mathlib.Core.Bool.{Bool, true, false, not, _&&_, _||_}
 use mathlib.Core.List.{List, [], _∷_}
@@ -9,8 +9,8 @@ use lib.ListN.{length, getD, take, drop}
 use Rattle.words.specs.Words.{isZero}
 use Rattle.machine.specs.Settings.{settingCount}
 use Rattle.machine.specs.Form.{allBelow, wellFormed}
-use Rattle.model.specs.History.{isTimestamp}
-use Rattle.model.specs.Tables.{Tables, heldCount, slots, programIn}
+use Rattle.model.specs.History.{infinity, isTimestamp}
+use Rattle.model.specs.Tables.{Tables, heldCount, cutoffIn, slots, programIn}
 
 -- does every test pass
 abbrev pub every : List Bool → Bool
@@ -39,6 +39,8 @@ lengthTests n T =
     ∷ eqb (length (T .written)) (32 * n)
     ∷ eqb (length (T .view)) settingCount
     ∷ eqb (length (T .versions)) n
+    ∷ eqb (length (T .cutoff)) 1
+    ∷ eqb (length (T .kept)) settingCount
     ∷ []
 
 -- not refusal 1
@@ -107,6 +109,10 @@ abbrev pub orderFits : List ℕ → List ℕ → ℕ → ℕ → Bool
 orderFits order timestamps n k =
     ltb (getD order k 0) n && (eqb k 0 || ltb (timestampOf order timestamps (k - 1)) (timestampOf order timestamps k))
 
+-- the timestamp of a place is not below the cutoff
+abbrev pub fromCutoff : ℕ → List ℕ → ℕ → Bool
+fromCutoff cutoff timestamps i = leb cutoff (getD timestamps i 0)
+
 -- the slots of places that are not held
 abbrev pub unusedTests : Tables → ℕ → List Bool
 unusedTests T n =
@@ -128,7 +134,7 @@ unusedTests T n =
 abbrev pub unusedFits : Tables → ℕ → Bool
 unusedFits T n = every (unusedTests T n)
 
--- tables of the right lengths that are in form. That the held timestamps are distinct, and that the order list has every held place, follows
+-- tables of the right lengths that are in form. That the held timestamps are distinct, and that the order list has every held place, follows. "In form, the cutoff is at most 2^64 − 2 and no held timestamp lies below it" (document 02, R-7)
 abbrev pub formTests : ℕ → Tables → List Bool
 formTests n T =
     let k = heldCount T in
@@ -139,6 +145,8 @@ formTests n T =
     ∷ allBelow k (listFits (T .reads) (T .sources) (T .seen))
     ∷ allBelow k (listFits (T .writes) (T .targets) (T .written))
     ∷ unusedFits T k
+    ∷ ltb (cutoffIn T) infinity
+    ∷ allBelow k (fromCutoff (cutoffIn T) (T .timestamps))
     ∷ []
 
 -- not refusal 2

@@ -1,4 +1,4 @@
--- Lists of calls: the tables, the book and the turns after them (document 01, "Demand 3 spelled out").
+-- Lists of calls: the tables, the book, the turns and what cutoffs dropped (document 01, "Demand 3 spelled out"; document 02, R-7).
 use mathlib.Core.Bool.{cond}
 use mathlib.Core.List.{List, [], _∷_, _++_, map}
 use Prim.Native.Nat.{ℕ}
@@ -8,9 +8,9 @@ use Rattle.model.specs.Figure.{Event, Step, idle, turned}
 use Rattle.model.specs.Tables.{Tables, decode}
 use Rattle.model.specs.Refusals.{faultOf}
 use Rattle.model.specs.Package.{Item, taking, withdrawing, itemsOf}
-use Rattle.model.specs.Book.{Book, enter, strike}
+use Rattle.model.specs.Book.{Book, enter, strike, bookBelow, bookFrom}
 use Rattle.model.specs.declared.Turned.{Turned}
-use Rattle.model.specs.Calls.{answerNumber, ifDone, eventAnswer, takeIn, withdraw, takeInPackage, turn, drainWithTotals, roundOf, drainOf}
+use Rattle.model.specs.Calls.{answerNumber, ifDone, eventAnswer, takeIn, withdraw, takeInPackage, raiseCutoff, turn, drainWithTotals, roundOf, drainOf}
 
 -- the calls that may alter the tables, each with its further arguments as the caller passes them
 pub data Call : Type 0 where
@@ -19,6 +19,7 @@ pub data Call : Type 0 where
   withdrawCall : ℕ → Call
   turnCall : Call
   drainCall : List ℕ → Call
+  cutoffCall : ℕ → Call
 
 -- ---- the book, from arguments and answers alone
 
@@ -58,36 +59,49 @@ drainTurns n T = map eventAnswer (drainEvents n T)
 
 -- ---- a list of calls
 
--- the tables, the book, and the turns so far, in order
+-- the tables, the book, the turns so far, in order, the last cutoff answered done, and the changes dropped so far, by rising timestamp
 pub record Ledger : Type 0 where
   pub tables : Tables
   pub book : Book
   pub events : List Event
+  pub cutoff : ℕ
+  pub dropped : Book
 
 unfoldable pub afterCall : ℕ → Call → Ledger → Ledger
 afterCall n (takeInCall t p) k =
     let r = takeIn n (k .tables) t p in
-    record { tables = r .tables; book = bookItem (taking t p) (answerNumber (r .answer)) (k .book); events = k .events }
+    record { tables = r .tables; book = bookItem (taking t p) (answerNumber (r .answer)) (k .book); events = k .events; cutoff = k .cutoff; dropped = k .dropped }
 afterCall n (packageCall bytes answers) k =
     let r = takeInPackage n (k .tables) bytes answers in
     record {
       tables = r .tables;
       book = cond (eqb (answerNumber (r .answer)) 0) (bookItems (itemsOf bytes) (r .answers) (k .book)) (k .book);
       events = k .events;
+      cutoff = k .cutoff;
+      dropped = k .dropped;
     }
 afterCall n (withdrawCall t) k =
     let r = withdraw n (k .tables) t in
-    record { tables = r .tables; book = bookItem (withdrawing t) (answerNumber (r .answer)) (k .book); events = k .events }
+    record { tables = r .tables; book = bookItem (withdrawing t) (answerNumber (r .answer)) (k .book); events = k .events; cutoff = k .cutoff; dropped = k .dropped }
 afterCall n turnCall k =
-    record { tables = turn n (k .tables) .tables; book = k .book; events = k .events ++ turnEvents n (k .tables) }
+    record { tables = turn n (k .tables) .tables; book = k .book; events = k .events ++ turnEvents n (k .tables); cutoff = k .cutoff; dropped = k .dropped }
 afterCall n (drainCall lent) k =
     let r = drainWithTotals n (k .tables) lent in
-    record { tables = r .tables; book = k .book; events = k .events ++ ifDone (r .answer) (drainEvents n (k .tables)) [] }
+    record { tables = r .tables; book = k .book; events = k .events ++ ifDone (r .answer) (drainEvents n (k .tables)) []; cutoff = k .cutoff; dropped = k .dropped }
+afterCall n (cutoffCall t) k =
+    let r = raiseCutoff n (k .tables) t in
+    record {
+      tables = r .tables;
+      book = ifDone (r .answer) (bookFrom t (k .book)) (k .book);
+      events = k .events;
+      cutoff = ifDone (r .answer) t (k .cutoff);
+      dropped = ifDone (r .answer) (k .dropped ++ bookBelow t (k .book)) (k .dropped);
+    }
 
 abbrev pub afterCalls : ℕ → List Call → Ledger → Ledger
 afterCalls n [] k = k
 afterCalls n (c ∷ calls) k = afterCalls n calls (afterCall n c k)
 
--- tables just set up: nothing booked, no turns
+-- tables just set up: nothing booked, no turns, nothing dropped
 abbrev pub begun : Tables → Ledger
-begun T = record { tables = T; book = []; events = [] }
+begun T = record { tables = T; book = []; events = []; cutoff = 0; dropped = [] }

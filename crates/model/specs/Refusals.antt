@@ -1,14 +1,14 @@
 -- The tests of document 01, "Turned down, in checking order". A call lists its tests in this order; the first that applies is its refusal.
-use mathlib.Core.Bool.{Bool, true, false, cond, not, _&&_}
+use mathlib.Core.Bool.{Bool, true, false, cond, not, _&&_, _||_}
 use mathlib.Core.List.{List, [], _∷_}
 use mathlib.Core.Option.{Option, none, some}
 use Prim.Native.Nat.{ℕ}
-use lib.Dec.{eqb, leb}
+use lib.Dec.{eqb, ltb, leb}
 use lib.ListN.{length}
 use Rattle.machine.specs.Settings.{settingCount}
 use Rattle.machine.specs.Instruction.{Code}
 use Rattle.machine.specs.Form.{lengthFits, wellFormed}
-use Rattle.model.specs.History.{isTimestamp, Change, program, withdrawn}
+use Rattle.model.specs.History.{isTimestamp, Status, New, Valid, Invalid, Change, timestamp, program, status, withdrawn, History}
 use Rattle.model.specs.Cabinet.{Cabinet, historyOf, find}
 use Rattle.model.specs.Tables.{Tables}
 use Rattle.model.specs.Form.{every, lengthsFit, inForm}
@@ -49,6 +49,10 @@ noTimestamp t = test 4 (not (isTimestamp t))
 
 abbrev pub noTime : ℕ → Test
 noTime t = test 4 (eqb t 0)
+
+-- 14: "just after 4, meets a timestamp below the cutoff in any call, a lower new cutoff included" (document 02, R-7)
+abbrev pub belowCutoff : ℕ → ℕ → Test
+belowCutoff cutoff t = test 14 (ltb t cutoff)
 
 -- 5: the setting number is above 1,023
 abbrev pub noSetting : ℕ → Test
@@ -104,6 +108,20 @@ notHeld c t = test 10 (not (isHeld (find t (historyOf c))))
 -- 11: the change is withdrawn already
 abbrev pub withdrawnAlready : Cabinet → ℕ → Test
 withdrawnAlready c t = test 11 (isWithdrawn (find t (historyOf c)))
+
+-- does a change of this status wait for a turn
+abbrev pub waits : Status → Bool
+waits New = true
+waits Valid = false
+waits Invalid = true
+
+abbrev pub waitsBelow : ℕ → History → Bool
+waitsBelow t [] = false
+waitsBelow t (c ∷ h) = (ltb (timestamp c) t && waits (status c)) || waitsBelow t h
+
+-- 15: "after 11, meets a cutoff with a New or Invalid change below it" (document 02, R-7)
+abbrev pub unsettledBelow : Cabinet → ℕ → Test
+unsettledBelow c t = test 15 (waitsBelow t (historyOf c))
 
 -- 12: "the package would pass its own limits or the lent slice" (document 02, R-3): it would have more than 512 entries, more than 65,535 bytes, or more bytes than are lent
 abbrev pub noRoom : ℕ → ℕ → ℕ → Test

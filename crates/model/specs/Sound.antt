@@ -1,7 +1,7 @@
 -- What a cabinet in form has: what proofs use. Nobody has to believe it: tables in form hold such a cabinet, and such a cabinet is laid out in form (proofs/Form).
 use mathlib.Core.Path.{_≡_}
 use mathlib.Core.Bool.{true}
-use mathlib.Core.List.{List, [], _∷_}
+use mathlib.Core.List.{List, [], _∷_, map}
 use Prim.Native.Nat.{ℕ, _<_, _≤_}
 use lib.ListN.{length}
 use Rattle.machine.specs.Settings.{settingCount, Bounded}
@@ -28,6 +28,11 @@ pub record ChangeSound (c : Change) : Type 0 where
 abbrev pub AllSound : List Change → Type 0
 AllSound [] = Unit {0}
 AllSound (c ∷ changes) = ChangeSound c × AllSound changes
+
+-- no timestamp is below a cutoff
+abbrev pub NoneUnder : ℕ → List ℕ → Type 0
+NoneUnder b [] = Unit {0}
+NoneUnder b (t ∷ timestamps) = (b ≤ t) × NoneUnder b timestamps
 
 -- ---- places
 
@@ -59,3 +64,6 @@ pub record Sound (n : ℕ) (c : Cabinet) : Type 0 where
   pub placed : Placed c
   pub rising : Rising 0 (historyOf c)
   pub viewed : length (c .view) ≡ settingCount
+  pub cut : c .cutoff < infinity
+  pub uncut : NoneUnder (c .cutoff) (map timestamp (c .changes))
+  pub kept-sized : length (c .kept) ≡ settingCount

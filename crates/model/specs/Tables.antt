@@ -1,4 +1,4 @@
--- The fifteen lent tables, and the cabinet that they hold (document 01, "Tables"; document 02, R-6).
+-- The seventeen lent tables, and the cabinet that they hold (document 01, "Tables"; document 02, R-6, R-7).
 use mathlib.Core.Bool.{Bool, true, false}
 use mathlib.Core.List.{List, [], _∷_, _++_, map}
 use Prim.Native.Nat.{ℕ, zero, suc, _-_, _*_, _/_}
@@ -9,7 +9,7 @@ use Rattle.machine.specs.Instruction.{Code, code}
 use Rattle.model.specs.History.{Status, New, Valid, Invalid, Change, change, timestamp, program, status, withdrawn, lists, tabulate}
 use Rattle.model.specs.Cabinet.{Cabinet}
 
--- held count; by place: timestamps, order, status, withdrawn, program lengths in instructions, programs, read and write counts, read settings, seen values, write settings, written values; the view; by place, versions
+-- held count; by place: timestamps, order, status, withdrawn, program lengths in instructions, programs, read and write counts, read settings, seen values, write settings, written values; the view; by place, versions; the cutoff and the kept values
 pub record Tables : Type 0 where
   pub held : List ℕ
   pub timestamps : List ℕ
@@ -26,10 +26,12 @@ pub record Tables : Type 0 where
   pub written : List ℤ
   pub view : List ℤ
   pub versions : List ℕ
+  pub cutoff : List ℕ
+  pub kept : List ℤ
 
 -- the tables as they are lent
-abbrev pub tables : List ℕ → List ℕ → List ℕ → List ℕ → List ℕ → List ℕ → List ℕ → List ℕ → List ℕ → List ℕ → List ℤ → List ℕ → List ℤ → List ℤ → List ℕ → Tables
-tables held timestamps order status withdrawn lengths programs reads writes sources seen targets written view versions =
+abbrev pub tables : List ℕ → List ℕ → List ℕ → List ℕ → List ℕ → List ℕ → List ℕ → List ℕ → List ℕ → List ℕ → List ℤ → List ℕ → List ℤ → List ℤ → List ℕ → List ℕ → List ℤ → Tables
+tables held timestamps order status withdrawn lengths programs reads writes sources seen targets written view versions cutoff kept =
     record {
       held = held;
       timestamps = timestamps;
@@ -46,6 +48,8 @@ tables held timestamps order status withdrawn lengths programs reads writes sour
       written = written;
       view = view;
       versions = versions;
+      cutoff = cutoff;
+      kept = kept;
     }
 
 -- ---- the tables after a call, by what it alters of them
@@ -53,22 +57,27 @@ tables held timestamps order status withdrawn lengths programs reads writes sour
 -- take in
 abbrev pub withTaking : Tables → List ℕ → List ℕ → List ℕ → List ℕ → List ℕ → List ℕ → Tables
 withTaking T held timestamps order lengths programs versions =
-    tables held timestamps order (T .status) (T .withdrawn) lengths programs (T .reads) (T .writes) (T .sources) (T .seen) (T .targets) (T .written) (T .view) versions
+    tables held timestamps order (T .status) (T .withdrawn) lengths programs (T .reads) (T .writes) (T .sources) (T .seen) (T .targets) (T .written) (T .view) versions (T .cutoff) (T .kept)
 
 -- withdraw
 abbrev pub withWithdrawing : Tables → List ℕ → List ℕ → Tables
 withWithdrawing T status withdrawn =
-    tables (T .held) (T .timestamps) (T .order) status withdrawn (T .lengths) (T .programs) (T .reads) (T .writes) (T .sources) (T .seen) (T .targets) (T .written) (T .view) (T .versions)
+    tables (T .held) (T .timestamps) (T .order) status withdrawn (T .lengths) (T .programs) (T .reads) (T .writes) (T .sources) (T .seen) (T .targets) (T .written) (T .view) (T .versions) (T .cutoff) (T .kept)
 
 -- take in a package
 abbrev pub withPackage : Tables → List ℕ → List ℕ → List ℕ → List ℕ → List ℕ → List ℕ → List ℕ → List ℕ → Tables
 withPackage T held timestamps order status withdrawn lengths programs versions =
-    tables held timestamps order status withdrawn lengths programs (T .reads) (T .writes) (T .sources) (T .seen) (T .targets) (T .written) (T .view) versions
+    tables held timestamps order status withdrawn lengths programs (T .reads) (T .writes) (T .sources) (T .seen) (T .targets) (T .written) (T .view) versions (T .cutoff) (T .kept)
 
 -- turn and drain
 abbrev pub withTurn : Tables → List ℕ → List ℕ → List ℕ → List ℕ → List ℤ → List ℕ → List ℤ → List ℤ → Tables
 withTurn T status reads writes sources seen targets written view =
-    tables (T .held) (T .timestamps) (T .order) status (T .withdrawn) (T .lengths) (T .programs) reads writes sources seen targets written view (T .versions)
+    tables (T .held) (T .timestamps) (T .order) status (T .withdrawn) (T .lengths) (T .programs) reads writes sources seen targets written view (T .versions) (T .cutoff) (T .kept)
+
+-- cutoff: all but the view
+abbrev pub withCutoff : Tables → List ℕ → List ℕ → List ℕ → List ℕ → List ℕ → List ℕ → List ℕ → List ℕ → List ℕ → List ℕ → List ℤ → List ℕ → List ℤ → List ℕ → List ℕ → List ℤ → Tables
+withCutoff T held timestamps order status withdrawn lengths programs reads writes sources seen targets written versions cutoff kept =
+    tables held timestamps order status withdrawn lengths programs reads writes sources seen targets written (T .view) versions cutoff kept
 
 -- ---- numbers
 
@@ -133,12 +142,17 @@ encode n c =
       written = blocks n 32 (pos 0) (λ d. valuesOf (lists d .writes)) (c .changes);
       view = c .view;
       versions = column n 0 (λ d. program d .version) (c .changes);
+      cutoff = c .cutoff ∷ [];
+      kept = c .kept;
     }
 
 -- ---- from tables to a cabinet
 
 abbrev pub heldCount : Tables → ℕ
 heldCount T = getD (T .held) 0 0
+
+abbrev pub cutoffIn : Tables → ℕ
+cutoffIn T = getD (T .cutoff) 0 0
 
 -- the first count slots of a place
 abbrev pub slots : {A : Type 0} → ℕ → ℕ → ℕ → List A → List A
@@ -172,4 +186,10 @@ changeAt T i =
 
 unfoldable pub decode : Tables → Cabinet
 decode T =
-    record { changes = tabulate (heldCount T) (changeAt T); order = take (heldCount T) (T .order); view = T .view }
+    record {
+      changes = tabulate (heldCount T) (changeAt T);
+      order = take (heldCount T) (T .order);
+      view = T .view;
+      cutoff = cutoffIn T;
+      kept = T .kept;
+    }

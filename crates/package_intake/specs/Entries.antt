@@ -1,15 +1,20 @@
--- What carrying out the entries of a package requires and leaves, on the part of the tables that items alter.
+-- What carrying out the entries of a package is lent of the tables, requires and leaves.
 use mathlib.Core.Path.{_≡_}
 use mathlib.Core.Bool.{true}
 use mathlib.Core.List.{List}
 use Prim.Native.Nat.{ℕ, _<_}
 use lib.ListN.{length}
 use Rattle.model.specs.declared.Answer.the-variants as answer
-use Rattle.model.specs.Tables.{Tables}
+use Rattle.model.specs.Tables.{Tables, tables}
 use Rattle.model.specs.Form.{Formed}
 use Rattle.model.specs.Package.{entryCount, bodyAt, layoutFits}
 use Rattle.model.specs.Calls.{packageReply, takeInPackage}
 use Rattle.tables.specs.Parts.{PartFormed}
+
+-- the tables with those that the entries are lent: what items alter, and the cutoff
+abbrev pub withLent : Tables → List ℕ → List ℕ → List ℕ → List ℕ → List ℕ → List ℕ → List ℕ → List ℕ → List ℕ → Tables
+withLent T held timestamps order status withdrawn lengths programs versions cutoff =
+    tables held timestamps order status withdrawn lengths programs (T .reads) (T .writes) (T .sources) (T .seen) (T .targets) (T .written) (T .view) versions cutoff (T .kept)
 
 -- what carrying out entry j requires, whose body begins at `body`
 pub record EntryReady (bytes : List ℕ) (j body : ℕ) (part : Tables → Tables) : Type 0 where

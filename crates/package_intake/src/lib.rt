@@ -16,7 +16,7 @@ ghost use Rattle.model.specs.Tables.{tables, withPackage};
 ghost use Rattle.model.specs.Package.{itemAt};
 ghost use Rattle.model.specs.Calls.{packageReply, takeInPackage};
 ghost use Rattle.tables.specs.Parts.{ItemAnswered};
-ghost use Rattle.package_intake.specs.Entries.{EntryReady, EntriesReady, EntriesTaken};
+ghost use Rattle.package_intake.specs.Entries.{withLent, EntryReady, EntriesReady, EntriesTaken};
 
 // Entry j of a package carried out, on tables in form. Its body begins at `body`.
 fn take_entry(
@@ -28,22 +28,23 @@ fn take_entry(
     lengths: &mut [u16],
     programs: &mut [u8],
     versions: &mut [u16],
+    cutoff: &[u64],
     bytes: &[u8],
     j: usize,
     body: usize,
 ) -> Answer
     requires { ⌜
         EntryReady (now bytes) j body
-        (λ T. withPackage T (now held) (now timestamps) (now order) (now status) (now withdrawn) (now lengths) (now programs) (now versions))
+        (λ T. withLent T (now held) (now timestamps) (now order) (now status) (now withdrawn) (now lengths) (now programs) (now versions) (now cutoff))
         ⌝ }
     ensures { λ r. ⌜
         ItemAnswered
         (λ T.
-        withPackage T (now (held .entry)) (now (timestamps .entry)) (now (order .entry)) (now (status .entry))
-        (now (withdrawn .entry)) (now (lengths .entry)) (now (programs .entry)) (now (versions .entry)))
+        withLent T (now (held .entry)) (now (timestamps .entry)) (now (order .entry)) (now (status .entry))
+        (now (withdrawn .entry)) (now (lengths .entry)) (now (programs .entry)) (now (versions .entry)) (now (cutoff .entry)))
         (λ T.
-        withPackage T (now (held .exit)) (now (timestamps .exit)) (now (order .exit)) (now (status .exit))
-        (now (withdrawn .exit)) (now (lengths .exit)) (now (programs .exit)) (now (versions .exit)))
+        withLent T (now (held .exit)) (now (timestamps .exit)) (now (order .exit)) (now (status .exit))
+        (now (withdrawn .exit)) (now (lengths .exit)) (now (programs .exit)) (now (versions .exit)) (now (cutoff .entry)))
         (itemAt (now (bytes .entry)) j) r
         ⌝ }
 {
@@ -57,12 +58,13 @@ fn take_entry(
             lengths,
             programs,
             versions,
+            cutoff,
             t,
             version_at(bytes, j),
             &bytes[body..end],
         );
     }
-    withdraw_item(held, timestamps, order, status, withdrawn, t)
+    withdraw_item(held, timestamps, order, status, withdrawn, cutoff, t)
 }
 
 // The entries of a package carried out in order, on tables in form, and the number of each one's answer stored. A refused entry stops nothing.
@@ -75,21 +77,22 @@ fn take_entries(
     lengths: &mut [u16],
     programs: &mut [u8],
     versions: &mut [u16],
+    cutoff: &[u64],
     bytes: &[u8],
     answers: &mut [u8],
 )
     requires { ⌜
         EntriesReady (now bytes) (now answers)
-        (λ T. withPackage T (now held) (now timestamps) (now order) (now status) (now withdrawn) (now lengths) (now programs) (now versions))
+        (λ T. withLent T (now held) (now timestamps) (now order) (now status) (now withdrawn) (now lengths) (now programs) (now versions) (now cutoff))
         ⌝ }
     ensures { λ _. ⌜
         EntriesTaken (now (bytes .entry)) (now (answers .entry)) (now (answers .exit))
         (λ T.
-        withPackage T (now (held .entry)) (now (timestamps .entry)) (now (order .entry)) (now (status .entry))
-        (now (withdrawn .entry)) (now (lengths .entry)) (now (programs .entry)) (now (versions .entry)))
+        withLent T (now (held .entry)) (now (timestamps .entry)) (now (order .entry)) (now (status .entry))
+        (now (withdrawn .entry)) (now (lengths .entry)) (now (programs .entry)) (now (versions .entry)) (now (cutoff .entry)))
         (λ T.
-        withPackage T (now (held .exit)) (now (timestamps .exit)) (now (order .exit)) (now (status .exit))
-        (now (withdrawn .exit)) (now (lengths .exit)) (now (programs .exit)) (now (versions .exit)))
+        withLent T (now (held .exit)) (now (timestamps .exit)) (now (order .exit)) (now (status .exit))
+        (now (withdrawn .exit)) (now (lengths .exit)) (now (programs .exit)) (now (versions .exit)) (now (cutoff .entry)))
         ⌝ }
 {
     let count = entry_count(bytes);
@@ -106,6 +109,7 @@ fn take_entries(
             lengths,
             programs,
             versions,
+            cutoff,
             bytes,
             j,
             body,
@@ -136,6 +140,8 @@ pub fn take_in_package(
     written: &[i32],
     view: &[i32],
     versions: &mut [u16],
+    cutoff: &[u64],
+    kept: &[i32],
     bytes: &[u8],
     answers: &mut [u8],
 ) -> Answer
@@ -143,7 +149,7 @@ pub fn take_in_package(
         (let T =
         tables (now (held .entry)) (now (timestamps .entry)) (now (order .entry)) (now (status .entry)) (now (withdrawn .entry))
         (now (lengths .entry)) (now (programs .entry)) (now (reads .entry)) (now (writes .entry)) (now (sources .entry))
-        (now (seen .entry)) (now (targets .entry)) (now (written .entry)) (now (view .entry)) (now (versions .entry)) in
+        (now (seen .entry)) (now (targets .entry)) (now (written .entry)) (now (view .entry)) (now (versions .entry)) (now (cutoff .entry)) (now (kept .entry)) in
         packageReply r
         (withPackage T (now (held .exit)) (now (timestamps .exit)) (now (order .exit)) (now (status .exit))
         (now (withdrawn .exit)) (now (lengths .exit)) (now (programs .exit)) (now (versions .exit)))
@@ -171,6 +177,8 @@ pub fn take_in_package(
         written,
         view,
         versions,
+        cutoff,
+        kept,
     );
     let refusal = refusal_with(of_tables, bytes);
     if refusal != 0 {
@@ -185,6 +193,7 @@ pub fn take_in_package(
         lengths,
         programs,
         versions,
+        cutoff,
         bytes,
         answers,
     );

@@ -25,13 +25,15 @@ pub fn package_out(
     written: &[i32],
     view: &[i32],
     versions: &[u16],
+    cutoff: &[u64],
+    kept: &[i32],
     bytes: &mut [u8],
 ) -> Packed
     ensures { λ r. ⌜
         (let T =
         tables (now (held .entry)) (now (timestamps .entry)) (now (order .entry)) (now (status .entry)) (now (withdrawn .entry))
         (now (lengths .entry)) (now (programs .entry)) (now (reads .entry)) (now (writes .entry)) (now (sources .entry))
-        (now (seen .entry)) (now (targets .entry)) (now (written .entry)) (now (view .entry)) (now (versions .entry)) in
+        (now (seen .entry)) (now (targets .entry)) (now (written .entry)) (now (view .entry)) (now (versions .entry)) (now (cutoff .entry)) (now (kept .entry)) in
         packedReply r (now (bytes .exit)) ≡ packageOut n T (now (bytes .entry)))
         ⌝ }
 {
@@ -52,6 +54,8 @@ pub fn package_out(
         written,
         view,
         versions,
+        cutoff,
+        kept,
     );
     if refusal != 0 {
         return Packed::Refused(refusal);

@@ -1,4 +1,5 @@
 // The calls that only read: current value, value as of a timestamp, standing of a timestamp, plain run, start values.
+use fresh::fill_from;
 use fresh::fill_start;
 use fresh::run_held;
 use model::Answer;
@@ -47,13 +48,15 @@ pub fn current_value(
     written: &[i32],
     view: &[i32],
     versions: &[u16],
+    cutoff: &[u64],
+    kept: &[i32],
     setting: usize,
 ) -> Value
     ensures { λ r. ⌜
         (let T =
         tables (now (held .entry)) (now (timestamps .entry)) (now (order .entry)) (now (status .entry)) (now (withdrawn .entry))
         (now (lengths .entry)) (now (programs .entry)) (now (reads .entry)) (now (writes .entry)) (now (sources .entry))
-        (now (seen .entry)) (now (targets .entry)) (now (written .entry)) (now (view .entry)) (now (versions .entry)) in
+        (now (seen .entry)) (now (targets .entry)) (now (written .entry)) (now (view .entry)) (now (versions .entry)) (now (cutoff .entry)) (now (kept .entry)) in
         r ≡ currentValue n T setting)
         ⌝ }
 {
@@ -74,6 +77,8 @@ pub fn current_value(
         written,
         view,
         versions,
+        cutoff,
+        kept,
     );
     if refusal != 0 {
         return Value::Refused(refusal);
@@ -81,8 +86,9 @@ pub fn current_value(
     setting_value(view, setting)
 }
 
-// The value of a setting as of a timestamp among the first count changes of the order list, or refusal 4 or 5.
+// The value of a setting as of a timestamp among the first count changes of the order list, or refusal 4, 14 or 5.
 fn value_at(
+    cutoff: u64,
     timestamp: u64,
     setting: usize,
     count: usize,
@@ -91,28 +97,32 @@ fn value_at(
     writes: &[u16],
     targets: &[u16],
     written: &[i32],
+    kept: &[i32],
 ) -> Value
     requires { ⌜
         PlacesWithin count (now order) (length (now timestamps)) × (length (now writes) ≡ length (now timestamps))
-        × WriteLists (now writes) (now targets) (now written)
+        × WriteLists (now writes) (now targets) (now written) × (length (now kept) ≡ 1024)
         ⌝ }
     ensures { λ r. ⌜
         r
         ≡ asOfAnswer (now (order .entry)) (now (timestamps .entry)) (now (writes .entry)) (now (targets .entry)) (now (written .entry))
-        count timestamp setting
+        (now (kept .entry)) cutoff count timestamp setting
         ⌝ }
 {
     if timestamp == 0 {
         return Value::Refused(4);
     }
+    if timestamp < cutoff {
+        return Value::Refused(14);
+    }
     if 1024 <= setting {
         return Value::Refused(5);
     }
     let k = rank(timestamp, count, order, timestamps);
-    Value::Is(value_below(setting as u16, k, order, writes, targets, written))
+    Value::Is(value_below(setting as u16, k, order, writes, targets, written, kept))
 }
 
-// The value of a setting as of a timestamp: the highest write stamped below it, else the start.
+// The value of a setting as of a timestamp: the highest write stamped below it, else the kept value.
 pub fn value_as_of(
     n: usize,
     held: &[u16],
@@ -130,6 +140,8 @@ pub fn value_as_of(
     written: &[i32],
     view: &[i32],
     versions: &[u16],
+    cutoff: &[u64],
+    kept: &[i32],
     timestamp: u64,
     setting: usize,
 ) -> Value
@@ -137,7 +149,7 @@ pub fn value_as_of(
         (let T =
         tables (now (held .entry)) (now (timestamps .entry)) (now (order .entry)) (now (status .entry)) (now (withdrawn .entry))
         (now (lengths .entry)) (now (programs .entry)) (now (reads .entry)) (now (writes .entry)) (now (sources .entry))
-        (now (seen .entry)) (now (targets .entry)) (now (written .entry)) (now (view .entry)) (now (versions .entry)) in
+        (now (seen .entry)) (now (targets .entry)) (now (written .entry)) (now (view .entry)) (now (versions .entry)) (now (cutoff .entry)) (now (kept .entry)) in
         r ≡ valueAsOf n T timestamp setting)
         ⌝ }
 {
@@ -158,12 +170,15 @@ pub fn value_as_of(
         written,
         view,
         versions,
+        cutoff,
+        kept,
     );
     if refusal != 0 {
         return Value::Refused(refusal);
     }
     let count = held_count(held);
     value_at(
+        cutoff[0],
         timestamp,
         setting,
         count,
@@ -172,11 +187,13 @@ pub fn value_as_of(
         writes,
         targets,
         written,
+        kept,
     )
 }
 
-// The status and flag of the change of a timestamp among the first count of the order list, or refusal 4 or 10.
+// The status and flag of the change of a timestamp among the first count of the order list, or refusal 4, 14 or 10.
 fn standing_at(
+    cutoff: u64,
     timestamp: u64,
     count: usize,
     order: &[u16],
@@ -190,11 +207,14 @@ fn standing_at(
         ⌝ }
     ensures { λ r. ⌜
         r
-        ≡ standingAnswer (now (order .entry)) (now (timestamps .entry)) (now (status .entry)) (now (withdrawn .entry)) count timestamp
+        ≡ standingAnswer (now (order .entry)) (now (timestamps .entry)) (now (status .entry)) (now (withdrawn .entry)) cutoff count timestamp
         ⌝ }
 {
     if !is_timestamp(timestamp) {
         return Standing::Refused(4);
+    }
+    if timestamp < cutoff {
+        return Standing::Refused(14);
     }
     match position(timestamp, count, order, timestamps) {
         Found::At(k) => {
@@ -223,13 +243,15 @@ pub fn standing(
     written: &[i32],
     view: &[i32],
     versions: &[u16],
+    cutoff: &[u64],
+    kept: &[i32],
     timestamp: u64,
 ) -> Standing
     ensures { λ r. ⌜
         (let T =
         tables (now (held .entry)) (now (timestamps .entry)) (now (order .entry)) (now (status .entry)) (now (withdrawn .entry))
         (now (lengths .entry)) (now (programs .entry)) (now (reads .entry)) (now (writes .entry)) (now (sources .entry))
-        (now (seen .entry)) (now (targets .entry)) (now (written .entry)) (now (view .entry)) (now (versions .entry)) in
+        (now (seen .entry)) (now (targets .entry)) (now (written .entry)) (now (view .entry)) (now (versions .entry)) (now (cutoff .entry)) (now (kept .entry)) in
         r ≡ standing n T timestamp)
         ⌝ }
 {
@@ -250,24 +272,22 @@ pub fn standing(
         written,
         view,
         versions,
+        cutoff,
+        kept,
     );
     if refusal != 0 {
         return Standing::Refused(refusal);
     }
     let count = held_count(held);
-    standing_at(timestamp, count, order, timestamps, status, withdrawn)
-}
-
-// The values put into a slice.
-fn copy(values: &[i32], settings: &mut [i32])
-    requires { ⌜ length (now values) ≡ length (now settings) ⌝ }
-    ensures { λ _. ⌜ now (settings .exit) ≡ now (values .entry) ⌝ }
-{
-    let mut i = 0;
-    while i < values.len() {
-        settings[i] = values[i];
-        i += 1;
-    }
+    standing_at(
+        cutoff[0],
+        timestamp,
+        count,
+        order,
+        timestamps,
+        status,
+        withdrawn,
+    )
 }
 
 // What all held changes leave, run in timestamp order on settings of their own, withdrawn ones passed over.
@@ -288,13 +308,15 @@ pub fn plain_run(
     written: &[i32],
     view: &[i32],
     versions: &[u16],
+    cutoff: &[u64],
+    kept: &[i32],
     settings: &mut [i32],
 ) -> Answer
     ensures { λ r. ⌜
         (let T =
         tables (now (held .entry)) (now (timestamps .entry)) (now (order .entry)) (now (status .entry)) (now (withdrawn .entry))
         (now (lengths .entry)) (now (programs .entry)) (now (reads .entry)) (now (writes .entry)) (now (sources .entry))
-        (now (seen .entry)) (now (targets .entry)) (now (written .entry)) (now (view .entry)) (now (versions .entry)) in
+        (now (seen .entry)) (now (targets .entry)) (now (written .entry)) (now (view .entry)) (now (versions .entry)) (now (cutoff .entry)) (now (kept .entry)) in
         plainReply r (now (settings .exit)) ≡ plainRun n T (now (settings .entry)))
         ⌝ }
 {
@@ -318,13 +340,15 @@ pub fn plain_run(
         written,
         view,
         versions,
+        cutoff,
+        kept,
     );
     if refusal != 0 {
         return Answer::Refused(refusal);
     }
     let count = held_count(held);
     let mut values = [0i32; 1024];
-    fill_start(&mut values);
+    fill_from(kept, &mut values);
     run_held(
         count,
         order,
@@ -334,7 +358,7 @@ pub fn plain_run(
         versions,
         &mut values,
     );
-    copy(&values, settings);
+    fill_from(&values, settings);
     Answer::Done
 }
 

@@ -26,12 +26,12 @@ module _ {old new : List Entry} {env : Environment} {earlier known : List ℕ} {
   replacing = record { sizes = a .sizes; before-is = a .before-is; after-is = a .after-is; old-known = a .old-known; new-known = a .new-known }
 
 pub propagated :
-    {k : ℕ} {C : Columns} {written : List ℤ} {new : List Entry} {earlier known readers writers status status' settled' : List ℕ} {before before' after' view view' : List ℤ} {count : ℕ} {list : List ℕ} →
-    Altered (writesAt C written k) new (valuesAt C written k) earlier known before after' count list →
+    {k : ℕ} {C : Columns} {written kept : List ℤ} {new : List Entry} {earlier known readers writers status status' settled' : List ℕ} {before before' after' view view' : List ℤ} {count : ℕ} {list : List ℕ} →
+    Altered (writesAt C written k) new (valuesAt C written kept k) earlier known before after' count list →
     (status' ≡ markedSettings C readers (k + 1) (firsts count list) status) × Settled (k + 1) C status' readers settled' →
     view' ≡ followed writers (k + 1) after' (firsts count list) view →
     before' ≡ restored (firsts count list) after' before →
-    Propagated k C written new readers writers status view status' view' settled' known before' after'
+    Propagated k C written kept new readers writers status view status' view' settled' known before' after'
 propagated {k} {C} {readers = readers} {writers} {status} {before = before} {after' = after'} {view} {count = count} {list} a m v b =
     let same = first-part count list in
     record {

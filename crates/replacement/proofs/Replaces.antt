@@ -29,20 +29,20 @@ new-arrays =
       written = length-replicate {A = ℤ} 32 (pos 0);
     }
 
-module _ {k : ℕ} {C : Columns} {seen written : List ℤ} {lengths programs status : List ℕ} {view : List ℤ} {known : List ℕ} {before after' : List ℤ} {readers settled : List ℕ} (r : Replaceable k C seen written lengths programs status view known before after' readers settled) where
+module _ {k : ℕ} {C : Columns} {seen written kept : List ℤ} {lengths programs status : List ℕ} {view : List ℤ} {known : List ℕ} {before after' : List ℤ} {readers settled : List ℕ} (r : Replaceable k C seen written kept lengths programs status view known before after' readers settled) where
   -- the position and its place
   pub position-small : (k < length (C .order)) × (k < 4096)
   position-small = (r .at .ordered, r .small)
 
-  module _ (version : ℕ) {a : Act} (moves : a ≡ act.Stand → ⊥) {new : Run} {l : record-of.Lists} {known' : List ℕ} {before' after'' : List ℤ} (m : Made a new l (run (valuesAt C written k) (code version (programIn lengths programs (getD (C .order) k 0)))) × Looked (valuesAt C written k) known known' before' after'') where
+  module _ (version : ℕ) {a : Act} (moves : a ≡ act.Stand → ⊥) {new : Run} {l : record-of.Lists} {known' : List ℕ} {before' after'' : List ℤ} (m : Made a new l (run (valuesAt C written kept k) (code version (programIn lengths programs (getD (C .order) k 0)))) × Looked (valuesAt C written kept k) known known' before' after'') where
     pub fits : Fitting (newColumns new l)
     fits = made-fits _ _ moves (subst (λ (p : List ℕ). length p ≤ 256) (program-part (r .runnable)) (program-runs (r .runnable) .0)) (m .0)
 
-    pub propagable : Propagable k C written (new .writes) (l .targets) (l .written) status view known' before' after'' readers settled
+    pub propagable : Propagable k C written kept (new .writes) (l .targets) (l .written) status view known' before' after'' readers settled
     propagable =
         record {
           alterable = record { at = r .at; settings = r .settings; short = fits .writes; target-slots = fits .targets; value-slots = fits .written; new-settings = fits .settings };
-          lookable = record { placed = r .lookable .placed; listed = r .lookable .listed; right = m .1 .right };
+          lookable = record { placed = r .lookable .placed; listed = r .lookable .listed; kept-sized = r .lookable .kept-sized; right = m .1 .right };
           markable = r .markable;
           viewed = r .viewed;
           small = r .small;

@@ -27,6 +27,7 @@ fn propagate(
     targets: &[u16],
     written: &[i32],
     view: &mut [i32],
+    kept: &[i32],
     before: &mut [i32; 1024],
     after: &mut [i32; 1024],
     known: &mut [u8; 1024],
@@ -36,13 +37,13 @@ fn propagate(
 )
     requires { ⌜
         (let C = columns (now order) (now reads) (now sources) (now writes) (now targets) in
-        Propagable k C (now written) size (now «new_targets») (now «new_written») (now status) (now view) (now known) (now before)
+        Propagable k C (now written) (now kept) size (now «new_targets») (now «new_written») (now status) (now view) (now known) (now before)
         (now after) (now readers) (now settled))
         ⌝ }
     ensures { λ _. ⌜
         (let C =
         columns (now (order .entry)) (now (reads .entry)) (now (sources .entry)) (now (writes .entry)) (now (targets .entry)) in
-        Propagated k C (now (written .entry)) (entries size (now («new_targets» .entry)) (now («new_written» .entry)))
+        Propagated k C (now (written .entry)) (now (kept .entry)) (entries size (now («new_targets» .entry)) (now («new_written» .entry)))
         (now (readers .entry)) (now (writers .entry)) (now (status .entry)) (now (view .entry)) (now (status .exit)) (now (view .exit))
         (now (settled .exit)) (now (known .exit)) (now (before .exit)) (now (after .exit)))
         ⌝ }
@@ -54,6 +55,7 @@ fn propagate(
         writes,
         targets,
         written,
+        kept,
         size,
         new_targets,
         new_written,
@@ -94,6 +96,7 @@ pub fn replace(
     targets: &mut [u16],
     written: &mut [i32],
     view: &mut [i32],
+    kept: &[i32],
     before: &mut [i32; 1024],
     after: &mut [i32; 1024],
     known: &mut [u8; 1024],
@@ -104,7 +107,7 @@ pub fn replace(
     requires { ⌜
         (let C = columns (now order) (now reads) (now sources) (now writes) (now targets) in
         (act ≡ variant.Stand → ⊥)
-        × Replaceable k C (now seen) (now written) (now lengths) (now programs) (now status) (now view) (now known) (now before)
+        × Replaceable k C (now seen) (now written) (now kept) (now lengths) (now programs) (now status) (now view) (now known) (now before)
         (now after) (now readers) (now settled))
         ⌝ }
     ensures { λ r. ⌜
@@ -112,7 +115,7 @@ pub fn replace(
         columns (now (order .entry)) (now (reads .entry)) (now (sources .entry)) (now (writes .entry)) (now (targets .entry)) in
         let C' =
         columns (now (order .entry)) (now (reads .exit)) (now (sources .exit)) (now (writes .exit)) (now (targets .exit)) in
-        Replaced act version r k C (now (seen .entry)) (now (written .entry)) (now (lengths .entry)) (now (programs .entry))
+        Replaced act version r k C (now (seen .entry)) (now (written .entry)) (now (kept .entry)) (now (lengths .entry)) (now (programs .entry))
         (now (readers .entry)) (now (writers .entry)) (now (status .entry)) (now (view .entry)) (now (status .exit)) C'
         (now (seen .exit)) (now (written .exit)) (now (view .exit)) (now (settled .exit)) (now (known .exit)) (now (before .exit))
         (now (after .exit)))
@@ -132,6 +135,7 @@ pub fn replace(
         writes,
         targets,
         written,
+        kept,
         before,
         after,
         known,
@@ -153,6 +157,7 @@ pub fn replace(
         targets,
         written,
         view,
+        kept,
         before,
         after,
         known,

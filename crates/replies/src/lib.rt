@@ -72,20 +72,22 @@ fn put_turns(
     written: &mut [i32],
     view: &mut [i32],
     versions: &[u16],
+    cutoff: &[u64],
+    kept: &[i32],
     text: &mut [u8],
     at: usize,
 ) -> usize
     requires { ⌜
         Formed capacity
         (tables (now held) (now timestamps) (now order) (now status) (now withdrawn) (now lengths) (now programs)
-        (now reads) (now writes) (now sources) (now seen) (now targets) (now written) (now view) (now versions))
+        (now reads) (now writes) (now sources) (now seen) (now targets) (now written) (now view) (now versions) (now cutoff) (now kept))
         ⌝ }
     requires { ⌜ at + 8256 ≤ length (now text) ⌝ }
     ensures { λ r. ⌜
         (let T =
         tables (now (held .entry)) (now (timestamps .entry)) (now (order .entry)) (now (status .entry)) (now (withdrawn .entry))
         (now (lengths .entry)) (now (programs .entry)) (now (reads .entry)) (now (writes .entry)) (now (sources .entry))
-        (now (seen .entry)) (now (targets .entry)) (now (written .entry)) (now (view .entry)) (now (versions .entry)) in
+        (now (seen .entry)) (now (targets .entry)) (now (written .entry)) (now (view .entry)) (now (versions .entry)) (now (cutoff .entry)) (now (kept .entry)) in
         TurnsPut T at (now (text .entry)) (now (text .exit)) (now (view .exit)) r)
         ⌝ }
 {
@@ -109,6 +111,8 @@ fn put_turns(
             written,
             view,
             versions,
+            cutoff,
+            kept,
         );
         end = put_turn(answer, text, end);
         idle = is_idle(answer);
@@ -148,6 +152,8 @@ pub fn put_reply(
     written: &mut [i32],
     view: &mut [i32],
     versions: &[u16],
+    cutoff: &[u64],
+    kept: &[i32],
     answer: Answer,
     bytes: &[u8],
     answers: &[u8],
@@ -157,14 +163,14 @@ pub fn put_reply(
         (answerNumber answer ≡ 0 →
         Answered (now bytes)
         (tables (now held) (now timestamps) (now order) (now status) (now withdrawn) (now lengths) (now programs)
-        (now reads) (now writes) (now sources) (now seen) (now targets) (now written) (now view) (now versions)))
+        (now reads) (now writes) (now sources) (now seen) (now targets) (now written) (now view) (now versions) (now cutoff) (now kept)))
         ⌝ }
     requires { ⌜ (length (now answers) ≡ 512) × (131072 ≤ length (now text)) ⌝ }
     ensures { λ r. ⌜
         (let T =
         tables (now (held .entry)) (now (timestamps .entry)) (now (order .entry)) (now (status .entry)) (now (withdrawn .entry))
         (now (lengths .entry)) (now (programs .entry)) (now (reads .entry)) (now (writes .entry)) (now (sources .entry))
-        (now (seen .entry)) (now (targets .entry)) (now (written .entry)) (now (view .entry)) (now (versions .entry)) in
+        (now (seen .entry)) (now (targets .entry)) (now (written .entry)) (now (view .entry)) (now (versions .entry)) (now (cutoff .entry)) (now (kept .entry)) in
         Put 0 (replyLines (now (bytes .entry)) (packageReply answer T (now (answers .entry)))) (now (text .entry)) (now (text .exit)) r)
         ⌝ }
     ensures { λ r. ⌜ r ≤ 131072 ⌝ }
@@ -190,6 +196,8 @@ pub fn put_reply(
         written,
         view,
         versions,
+        cutoff,
+        kept,
         text,
         end,
     );

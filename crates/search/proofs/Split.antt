@@ -12,7 +12,7 @@ use Rattle.machine.specs.Settings.{Environment}
 use Rattle.model.specs.History.{timestamp, History, afterChange, afterAll, asOf}
 use Rattle.model.specs.Cabinet.{blank, find}
 use Rattle.model.specs.Sound.{Rising}
-use Rattle.model.proofs.Figure.{AllBelow, NoneBelow, asOf-all-below, asOf-none-below, asOf-append, rising-none-below}
+use Rattle.model.proofs.Figure.{AllBelow, NoneBelow, asOf-all-below, asOf-none-below, asOf-append, afterAll-append, rising-none-below}
 
 -- the first k changes are stamped below t, the others are not
 pub record Split (t : ℕ) (h : History) (k : ℕ) : Type 0 where
@@ -68,10 +68,6 @@ module _ (t : ℕ) (h : History) (k : ℕ) (s : Split t h k) where
       go (no l) = ap (find t) (drop-of-length-le h {i = k} (omega arith))
 
 -- ---- settings
-
-afterAll-append : (a h : History) (env : Environment) → afterAll (a ++ h) env ≡ afterAll h (afterAll a env)
-afterAll-append [] h env = refl
-afterAll-append (c ∷ a) h env = afterAll-append a h (afterChange c env)
 
 -- the settings after one change more
 pub after-next : (h : History) (k : ℕ) (env : Environment) → k < length h → afterAll (take (suc k) h) env ≡ afterChange (getD h k blank) (afterAll (take k h) env)

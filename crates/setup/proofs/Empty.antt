@@ -17,8 +17,8 @@ use Rattle.model.proofs.Tests.{lengths-of}
 recounted : {A : Type 0} (z : A) {k m : ℕ} → k ≡ m → replicate k z ≡ replicate m z
 recounted z e = ap (λ (i : ℕ). replicate i z) e
 
--- the tables of an empty cabinet are zeros, but for the view
-empty-tables : (n : ℕ) → encode n emptyCabinet ≡ tables (replicate 1 0) (replicate n 0) (replicate n 0) (replicate n 0) (replicate n 0) (replicate n 0) (replicate (256 * n) 0) (replicate n 0) (replicate n 0) (replicate (32 * n) 0) (replicate (32 * n) (pos 0)) (replicate (32 * n) 0) (replicate (32 * n) (pos 0)) (allSettings start) (replicate n 0)
+-- the tables of an empty cabinet are zeros, but for the view and the kept values
+empty-tables : (n : ℕ) → encode n emptyCabinet ≡ tables (replicate 1 0) (replicate n 0) (replicate n 0) (replicate n 0) (replicate n 0) (replicate n 0) (replicate (256 * n) 0) (replicate n 0) (replicate n 0) (replicate (32 * n) 0) (replicate (32 * n) (pos 0)) (replicate (32 * n) 0) (replicate (32 * n) (pos 0)) (allSettings start) (replicate n 0) (replicate 1 0) (allSettings start)
 unfolding encode
 empty-tables n =
     let one : n - 0 ≡ n = omega arith in
@@ -27,9 +27,9 @@ empty-tables n =
     let column = recounted {A = ℕ} 0 one in
     let settings = recounted {A = ℕ} 0 slots in
     let values = recounted (pos 0) slots in
-    λ j. tables (replicate 1 0) (column j) (column j) (column j) (column j) (column j) (recounted {A = ℕ} 0 bytes j) (column j) (column j) (settings j) (values j) (settings j) (values j) (allSettings start) (column j)
+    λ j. tables (replicate 1 0) (column j) (column j) (column j) (column j) (column j) (recounted {A = ℕ} 0 bytes j) (column j) (column j) (settings j) (values j) (settings j) (values j) (allSettings start) (column j) (replicate 1 0) (allSettings start)
 
--- the tables U are the tables T cleared: zeros, as many as there were, and the view is the start
+-- the tables U are the tables T cleared: zeros, as many as there were, and the view and the kept values are the start
 pub record Cleared (T U : Tables) : Type 0 where
   pub held : U .held ≡ replicate (length (T .held)) 0
   pub timestamps : U .timestamps ≡ replicate (length (T .timestamps)) 0
@@ -46,6 +46,8 @@ pub record Cleared (T U : Tables) : Type 0 where
   pub written : U .written ≡ replicate (length (T .written)) (pos 0)
   pub view : U .view ≡ allSettings start
   pub versions : U .versions ≡ replicate (length (T .versions)) 0
+  pub cutoff : U .cutoff ≡ replicate (length (T .cutoff)) 0
+  pub kept : U .kept ≡ allSettings start
 
 module _ (n : ℕ) (T : Tables) where
   pub set-up-refused : lengthsFit n T ≡ false → reply (answer.Refused 1) T ≡ setUp n T
@@ -59,4 +61,4 @@ module _ (n : ℕ) (T : Tables) where
       rw (e, empty-tables n)
       (λ j.
       reply answer.Done
-      (tables ((c .held ∙ recounted 0 (g .held)) j) ((c .timestamps ∙ recounted 0 (g .timestamps)) j) ((c .order ∙ recounted 0 (g .order)) j) ((c .status ∙ recounted 0 (g .status)) j) ((c .withdrawn ∙ recounted 0 (g .withdrawn)) j) ((c .lengths ∙ recounted 0 (g .lengths)) j) ((c .programs ∙ recounted 0 (g .programs)) j) ((c .reads ∙ recounted 0 (g .reads)) j) ((c .writes ∙ recounted 0 (g .writes)) j) ((c .sources ∙ recounted 0 (g .sources)) j) ((c .seen ∙ recounted (pos 0) (g .seen)) j) ((c .targets ∙ recounted 0 (g .targets)) j) ((c .written ∙ recounted (pos 0) (g .written)) j) (c .view j) ((c .versions ∙ recounted 0 (g .versions)) j)))
+      (tables ((c .held ∙ recounted 0 (g .held)) j) ((c .timestamps ∙ recounted 0 (g .timestamps)) j) ((c .order ∙ recounted 0 (g .order)) j) ((c .status ∙ recounted 0 (g .status)) j) ((c .withdrawn ∙ recounted 0 (g .withdrawn)) j) ((c .lengths ∙ recounted 0 (g .lengths)) j) ((c .programs ∙ recounted 0 (g .programs)) j) ((c .reads ∙ recounted 0 (g .reads)) j) ((c .writes ∙ recounted 0 (g .writes)) j) ((c .sources ∙ recounted 0 (g .sources)) j) ((c .seen ∙ recounted (pos 0) (g .seen)) j) ((c .targets ∙ recounted 0 (g .targets)) j) ((c .written ∙ recounted (pos 0) (g .written)) j) (c .view j) ((c .versions ∙ recounted 0 (g .versions)) j) ((c .cutoff ∙ recounted 0 (g .cutoff)) j) (c .kept j)))

@@ -1,4 +1,4 @@
-// Set up: every table to 0, the view to the start values.
+// Set up: every table to 0, the view and the kept values to the start values.
 use fresh::fill_start;
 use model::Answer;
 use tables::form::lengths_fit;
@@ -27,16 +27,18 @@ pub fn set_up(
     written: &mut [i32],
     view: &mut [i32],
     versions: &mut [u16],
+    cutoff: &mut [u64],
+    kept: &mut [i32],
 ) -> Answer
     ensures { λ r. ⌜
         (let T =
         tables (now (held .entry)) (now (timestamps .entry)) (now (order .entry)) (now (status .entry)) (now (withdrawn .entry))
         (now (lengths .entry)) (now (programs .entry)) (now (reads .entry)) (now (writes .entry)) (now (sources .entry))
-        (now (seen .entry)) (now (targets .entry)) (now (written .entry)) (now (view .entry)) (now (versions .entry)) in
+        (now (seen .entry)) (now (targets .entry)) (now (written .entry)) (now (view .entry)) (now (versions .entry)) (now (cutoff .entry)) (now (kept .entry)) in
         reply r
         (tables (now (held .exit)) (now (timestamps .exit)) (now (order .exit)) (now (status .exit)) (now (withdrawn .exit))
         (now (lengths .exit)) (now (programs .exit)) (now (reads .exit)) (now (writes .exit)) (now (sources .exit))
-        (now (seen .exit)) (now (targets .exit)) (now (written .exit)) (now (view .exit)) (now (versions .exit)))
+        (now (seen .exit)) (now (targets .exit)) (now (written .exit)) (now (view .exit)) (now (versions .exit)) (now (cutoff .exit)) (now (kept .exit)))
         ≡ setUp n T)
         ⌝ }
 {
@@ -57,6 +59,8 @@ pub fn set_up(
         written,
         view,
         versions,
+        cutoff,
+        kept,
     ) {
         return Answer::Refused(1);
     }
@@ -75,5 +79,7 @@ pub fn set_up(
     clear_i32(written);
     fill_start(view);
     clear_u16(versions);
+    clear_u64(cutoff);
+    fill_start(kept);
     Answer::Done
 }

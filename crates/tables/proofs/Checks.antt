@@ -5,11 +5,12 @@ use mathlib.Core.List.{List, [], _∷_}
 use Prim.Native.Nat.{ℕ, _≤_, _<_}
 use native.Mathlib.Omega.{arith}
 use borrow.Author.Tests.{le-leb, lt-leb}
-use lib.Dec.{leb}
+use lib.Dec.{leb, ltb}
 use lib.ListN.{drop}
 use Rattle.machine.specs.Form.{allBelow}
-use Rattle.model.specs.Tables.{Tables, heldCount}
-use Rattle.model.specs.Form.{every, lengthTests, lengthsFit, headFits, orderFits, programFits, listFits, unusedFits, inForm}
+use Rattle.model.specs.History.{infinity}
+use Rattle.model.specs.Tables.{Tables, heldCount, cutoffIn}
+use Rattle.model.specs.Form.{every, lengthTests, lengthsFit, headFits, orderFits, programFits, listFits, fromCutoff, unusedFits, inForm}
 use Rattle.model.specs.Refusals.{faultOf}
 
 -- ---- several tests
@@ -55,7 +56,7 @@ module _ (n : ℕ) (T : Tables) {k : ℕ} (e : k ≡ heldCount T) where
 
   -- the tests of form, joined one by one
   pub form-tested :
-      {heads order programs reads writes unused : Bool}
+      {heads order programs reads writes unused cut uncut : Bool}
       → k ≤ n
       → heads ≡ allBelow k (headFits (T .timestamps) (T .status) (T .withdrawn) (T .reads) (T .writes) (T .versions))
       → order ≡ allBelow k (orderFits (T .order) (T .timestamps) k)
@@ -63,9 +64,11 @@ module _ (n : ℕ) (T : Tables) {k : ℕ} (e : k ≡ heldCount T) where
       → reads ≡ allBelow k (listFits (T .reads) (T .sources) (T .seen))
       → writes ≡ allBelow k (listFits (T .writes) (T .targets) (T .written))
       → unused ≡ unusedFits T k
-      → (heads && order && programs && reads && writes && unused) ≡ inForm n T
+      → cut ≡ ltb (cutoffIn T) infinity
+      → uncut ≡ allBelow k (fromCutoff (cutoffIn T) (T .timestamps))
+      → (heads && order && programs && reads && writes && unused && cut && uncut) ≡ inForm n T
   unfolding inForm
-  form-tested = rw e (λ few heads order programs reads writes unused. all-joined (sym (le-leb (heldCount T) n few) and heads and order and programs and reads and writes and unused and no-more))
+  form-tested = rw e (λ few heads order programs reads writes unused cut uncut. all-joined (sym (le-leb (heldCount T) n few) and heads and order and programs and reads and writes and unused and cut and uncut and no-more))
 
 -- the refusal, by the two tests
 module _ (n : ℕ) (T : Tables) where

@@ -48,6 +48,12 @@ view-kept kept = written-kept (kept .1)
 abbrev pub versions-kept : {A B C D E F G H I J K L M N O Rest : Type 0} → A × (B × (C × (D × (E × (F × (G × (H × (I × (J × (K × (L × (M × (N × (O × Rest)))))))))))))) → O
 versions-kept kept = view-kept (kept .1)
 
+abbrev pub cutoff-kept : {A B C D E F G H I J K L M N O P Rest : Type 0} → A × (B × (C × (D × (E × (F × (G × (H × (I × (J × (K × (L × (M × (N × (O × (P × Rest))))))))))))))) → P
+cutoff-kept kept = versions-kept (kept .1)
+
+abbrev pub kept-kept : {A B C D E F G H I J K L M N O P Q Rest : Type 0} → A × (B × (C × (D × (E × (F × (G × (H × (I × (J × (K × (L × (M × (N × (O × (P × (Q × Rest)))))))))))))))) → Q
+kept-kept kept = cutoff-kept (kept .1)
+
 -- what follows the tables
-abbrev pub behind-tables : {A B C D E F G H I J K L M N O Rest : Type 0} → A × (B × (C × (D × (E × (F × (G × (H × (I × (J × (K × (L × (M × (N × (O × Rest)))))))))))))) → Rest
-behind-tables kept = kept .1 .1 .1 .1 .1 .1 .1 .1 .1 .1 .1 .1 .1 .1 .1
+abbrev pub behind-tables : {A B C D E F G H I J K L M N O P Q Rest : Type 0} → A × (B × (C × (D × (E × (F × (G × (H × (I × (J × (K × (L × (M × (N × (O × (P × (Q × Rest)))))))))))))))) → Rest
+behind-tables kept = kept .1 .1 .1 .1 .1 .1 .1 .1 .1 .1 .1 .1 .1 .1 .1 .1 .1

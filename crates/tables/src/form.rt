@@ -2,6 +2,7 @@
 use crate::held_count;
 use form_lists::lists_fit;
 use form_places::heads_fit;
+use form_places::none_below;
 use form_places::order_fits;
 use form_places::programs_fit;
 use zeros::rest_zero_i32;
@@ -33,12 +34,14 @@ pub fn lengths_fit(
     written: &[i32],
     view: &[i32],
     versions: &[u16],
+    cutoff: &[u64],
+    kept: &[i32],
 ) -> bool
     ensures { λ r. ⌜
         (let T =
         tables (now (held .entry)) (now (timestamps .entry)) (now (order .entry)) (now (status .entry)) (now (withdrawn .entry))
         (now (lengths .entry)) (now (programs .entry)) (now (reads .entry)) (now (writes .entry)) (now (sources .entry))
-        (now (seen .entry)) (now (targets .entry)) (now (written .entry)) (now (view .entry)) (now (versions .entry)) in
+        (now (seen .entry)) (now (targets .entry)) (now (written .entry)) (now (view .entry)) (now (versions .entry)) (now (cutoff .entry)) (now (kept .entry)) in
         r ≡ lengthsFit n T)
         ⌝ }
 {
@@ -61,6 +64,8 @@ pub fn lengths_fit(
         & (written.len() == slots)
         & (view.len() == 1024)
         & (versions.len() == n)
+        & (cutoff.len() == 1)
+        & (kept.len() == 1024)
 }
 
 // Whether the slots of places from count on are 0.
@@ -86,7 +91,7 @@ fn unused_fits(
         ≡ unusedFits
         (tables [] (now (timestamps .entry)) (now (order .entry)) (now (status .entry)) (now (withdrawn .entry)) (now (lengths .entry))
         (now (programs .entry)) (now (reads .entry)) (now (writes .entry)) (now (sources .entry)) (now (seen .entry))
-        (now (targets .entry)) (now (written .entry)) [] (now (versions .entry)))
+        (now (targets .entry)) (now (written .entry)) [] (now (versions .entry)) [] [])
         count
         ⌝ }
 {
@@ -125,12 +130,14 @@ pub fn fault(
     written: &[i32],
     view: &[i32],
     versions: &[u16],
+    cutoff: &[u64],
+    kept: &[i32],
 ) -> u8
     ensures { λ r. ⌜
         (let T =
         tables (now (held .entry)) (now (timestamps .entry)) (now (order .entry)) (now (status .entry)) (now (withdrawn .entry))
         (now (lengths .entry)) (now (programs .entry)) (now (reads .entry)) (now (writes .entry)) (now (sources .entry))
-        (now (seen .entry)) (now (targets .entry)) (now (written .entry)) (now (view .entry)) (now (versions .entry)) in
+        (now (seen .entry)) (now (targets .entry)) (now (written .entry)) (now (view .entry)) (now (versions .entry)) (now (cutoff .entry)) (now (kept .entry)) in
         r ≡ faultOf n T)
         ⌝ }
 {
@@ -151,6 +158,8 @@ pub fn fault(
         written,
         view,
         versions,
+        cutoff,
+        kept,
     ) {
         return 1;
     }
@@ -158,6 +167,7 @@ pub fn fault(
     if n < count {
         return 2;
     }
+    let last = cutoff[0];
     let fits = heads_fit(
         count,
         timestamps,
@@ -186,6 +196,8 @@ pub fn fault(
             targets,
             written,
             versions,
-        );
+        )
+        & (last < 18446744073709551615)
+        & none_below(count, last, timestamps);
     if fits { 0 } else { 2 }
 }

@@ -77,4 +77,4 @@ module _ (n : ℕ) (c : Cabinet) (s : Sound n c) (t : ℕ) (p : Code) (room : le
       let targets = blocks-none-more n 32 0 (λ d. settingsOf (lists d .writes)) (c .changes) new (settings-fit (λ d. lists d .writes) (c .changes) writes-few) room refl in
       let written = blocks-none-more n 32 (pos 0) (λ d. valuesOf (lists d .writes)) (c .changes) new (values-fit (λ d. lists d .writes) (c .changes) writes-few) room refl in
       let versions = sym (column-append n 0 (λ d. program d .version) (c .changes) new room) in
-      λ j. tables (held j) (timestamps j) (order-added j) (status j) (withdrawn j) (lengths j) (programs j) (reads j) (writes j) (sources j) (seen j) (targets j) (written j) (c .view) (versions j)
+      λ j. tables (held j) (timestamps j) (order-added j) (status j) (withdrawn j) (lengths j) (programs j) (reads j) (writes j) (sources j) (seen j) (targets j) (written j) (c .view) (versions j) (encode n c .cutoff) (c .kept)

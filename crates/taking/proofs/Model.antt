@@ -12,8 +12,8 @@ use Rattle.model.specs.declared.Answer.{Answer}
 use Rattle.model.specs.declared.Answer.the-variants as answer
 use Rattle.model.specs.History.{Change}
 use Rattle.model.specs.Cabinet.{blank, find, add}
-use Rattle.model.specs.Tables.{Tables, withTaking, encode, heldCount, programAt, decode}
-use Rattle.model.specs.Refusals.{sameProgram}
+use Rattle.model.specs.Tables.{Tables, withTaking, encode, heldCount, cutoffIn, programAt, decode}
+use Rattle.model.specs.Refusals.{firstOf, sameProgram}
 use Rattle.model.specs.Package.{taking}
 use Rattle.model.specs.Calls.{reply, ifDone, itemCall}
 use Rattle.model.specs.Form.{Formed}
@@ -24,9 +24,14 @@ use Rattle.search.specs.Searches.{rankOf, stampedAt}
 use Rattle.search.proofs.Steps.{rank-within}
 use Rattle.search.proofs.Model.{historyIn, positionIn, held-changes, rank-splits, position-none, position-some, position-change}
 use Rattle.tables.proofs.Parts.{item-replied}
-use Rattle.taking.specs.Taking.{comparedAnswer, entered, copied}
+use Rattle.taking.specs.Taking.{argumentTests, comparedAnswer, entered, copied}
 use Rattle.taking.proofs.Entered.{enteredIn, added}
-use Rattle.taking.proofs.Answers.{Acceptable, compared, none-left, place-left}
+use Rattle.taking.proofs.Answers.{Acceptable, refused, compared, none-left, place-left}
+
+-- refused by its arguments
+pub refused-replied : {n : ℕ} {T : Tables} → Formed n T → (t : ℕ) (p : Code) {r : ℕ} → r ≡ firstOf (argumentTests (cutoffIn T) t p) → (r ≡ 0 → ⊥) → reply (answer.Refused r) T ≡ itemCall n T (taking t p)
+unfolding decode
+refused-replied {n} {T} g t p e f = item-replied (taking t p) g (refused n (decode T) t p e f) refl
 
 -- a held count and the rank of a timestamp, as the code finds them
 pub record AtRank (T : Tables) (t count position : ℕ) : Type 0 where
@@ -76,7 +81,11 @@ module _ {n : ℕ} {T : Tables} (g : Formed n T) {t count position : ℕ} (r : A
         versioned = l .versions ∙ sym (l .lengths);
       }
 
-  module _ {p : Code} (a : Acceptable t p) where
+  module _ {p : Code} (accepted : Acceptable (cutoffIn T) t p) where
+    a : Acceptable (decode T .cutoff) t p
+    unfolding decode
+    a = accepted
+
     pub room-left : (count ≡ length (T .timestamps) → ⊥) → Room n T p count position
     room-left f =
         record {

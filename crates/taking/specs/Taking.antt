@@ -1,4 +1,4 @@
--- What the parts of a taking in answer and store, as functions of the lent lists.
+-- What taking in is lent of the tables, and what its parts answer and store, as functions of the lent lists.
 use mathlib.Core.Bool.{cond}
 use mathlib.Core.List.{List, [], _∷_, _++_}
 use Prim.Native.Nat.{ℕ, _+_}
@@ -7,11 +7,17 @@ use lib.Seq.{slice}
 use Rattle.machine.specs.Instruction.{Code}
 use Rattle.model.specs.declared.Answer.{Answer}
 use Rattle.model.specs.declared.Answer.the-variants as answer
-use Rattle.model.specs.Refusals.{Test, noTimestamp, wrongProgramLength, noVersion, malformed, sameProgram}
+use Rattle.model.specs.Tables.{Tables, tables}
+use Rattle.model.specs.Refusals.{Test, noTimestamp, belowCutoff, wrongProgramLength, noVersion, malformed, sameProgram}
 
--- refusals 4, 6, 13 and 7, which the timestamp and the program decide
-abbrev pub argumentTests : ℕ → Code → List Test
-argumentTests t p = noTimestamp t ∷ wrongProgramLength p ∷ noVersion p ∷ malformed p ∷ []
+-- the tables with those that taking in is lent
+abbrev pub withLent : Tables → List ℕ → List ℕ → List ℕ → List ℕ → List ℕ → List ℕ → List ℕ → Tables
+withLent T held timestamps order lengths programs versions cutoff =
+    tables held timestamps order (T .status) (T .withdrawn) lengths programs (T .reads) (T .writes) (T .sources) (T .seen) (T .targets) (T .written) (T .view) versions cutoff (T .kept)
+
+-- refusals 4, 14, 6, 13 and 7, which the timestamp, the cutoff and the program decide
+abbrev pub argumentTests : ℕ → ℕ → Code → List Test
+argumentTests cutoff t p = noTimestamp t ∷ belowCutoff cutoff t ∷ wrongProgramLength p ∷ noVersion p ∷ malformed p ∷ []
 
 -- the answer to a program whose timestamp is held with some program: the same, or refusal 8
 abbrev pub comparedAnswer : Code → Code → Answer

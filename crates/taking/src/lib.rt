@@ -11,19 +11,22 @@ ghost use Prim.Native.Nat.{_+_, _*_, _<_, _≤_};
 ghost use lib.ListN.{length, getD};
 ghost use Rattle.model.specs.declared.Answer.the-variants as answer;
 ghost use Rattle.machine.specs.Instruction.{code};
-ghost use Rattle.model.specs.Tables.{codeIn, withTaking};
+ghost use Rattle.model.specs.Tables.{codeIn};
 ghost use Rattle.model.specs.Refusals.{sameBytes};
 ghost use Rattle.model.specs.Package.{taking};
 ghost use Rattle.tables.specs.Parts.{PartFormed, ItemAnswered};
 ghost use Rattle.model.specs.Refusals.{firstOf};
-ghost use Rattle.taking.specs.Taking.{argumentTests, comparedAnswer, entered, copied};
+ghost use Rattle.taking.specs.Taking.{withLent, argumentTests, comparedAnswer, entered, copied};
 
-// The refusal of a timestamp, a version and a program by themselves: 4, 6, 13 or 7, or 0 where there is none.
-fn refusal_of(timestamp: u64, version: u16, program: &[u8]) -> u8
-    ensures { λ r. ⌜ r ≡ firstOf (argumentTests timestamp (code version (now (program .entry)))) ⌝ }
+// The refusal of a timestamp, a version and a program by themselves, where the cutoff is given: 4, 14, 6, 13 or 7, or 0 where there is none.
+fn refusal_of(cutoff: u64, timestamp: u64, version: u16, program: &[u8]) -> u8
+    ensures { λ r. ⌜ r ≡ firstOf (argumentTests cutoff timestamp (code version (now (program .entry)))) ⌝ }
 {
     if !is_timestamp(timestamp) {
         return 4;
+    }
+    if timestamp < cutoff {
+        return 14;
     }
     if !length_fits(program) {
         return 6;
@@ -111,19 +114,20 @@ pub fn take_item(
     lengths: &mut [u16],
     programs: &mut [u8],
     versions: &mut [u16],
+    cutoff: &[u64],
     timestamp: u64,
     version: u16,
     program: &[u8],
 ) -> Answer
-    requires { ⌜ PartFormed (λ T. withTaking T (now held) (now timestamps) (now order) (now lengths) (now programs) (now versions)) ⌝ }
+    requires { ⌜ PartFormed (λ T. withLent T (now held) (now timestamps) (now order) (now lengths) (now programs) (now versions) (now cutoff)) ⌝ }
     ensures { λ r. ⌜
         ItemAnswered
-        (λ T. withTaking T (now (held .entry)) (now (timestamps .entry)) (now (order .entry)) (now (lengths .entry)) (now (programs .entry)) (now (versions .entry)))
-        (λ T. withTaking T (now (held .exit)) (now (timestamps .exit)) (now (order .exit)) (now (lengths .exit)) (now (programs .exit)) (now (versions .exit)))
+        (λ T. withLent T (now (held .entry)) (now (timestamps .entry)) (now (order .entry)) (now (lengths .entry)) (now (programs .entry)) (now (versions .entry)) (now (cutoff .entry)))
+        (λ T. withLent T (now (held .exit)) (now (timestamps .exit)) (now (order .exit)) (now (lengths .exit)) (now (programs .exit)) (now (versions .exit)) (now (cutoff .entry)))
         (taking timestamp (code version (now (program .entry)))) r
         ⌝ }
 {
-    let refusal = refusal_of(timestamp, version, program);
+    let refusal = refusal_of(cutoff[0], timestamp, version, program);
     if refusal != 0 {
         return Answer::Refused(refusal);
     }

@@ -9,10 +9,10 @@ use lib.ListN.{length, length-map}
 use Rattle.machine.proofs.Cases.{impossible}
 use Rattle.model.specs.declared.Turned.{Turned}
 use Rattle.model.specs.declared.Turned.the-variants.{Idle}
-use Rattle.model.specs.History.{start, History}
+use Rattle.model.specs.History.{History}
 use Rattle.model.specs.Figure.{Event, Step, idle, turned}
 use Rattle.model.specs.Drain.{drainNone, drainMore, drainHistory}
-use Rattle.model.specs.Cabinet.{Cabinet, historyOf, withHistory}
+use Rattle.model.specs.Cabinet.{Cabinet, keptIn, historyOf, withHistory}
 use Rattle.model.specs.Tables.{Tables, encode}
 use Rattle.model.specs.Form.{lengthsFit, Formed}
 use Rattle.model.specs.Calls.{setUp, eventAnswer, roundOf, drainOf}
@@ -45,8 +45,8 @@ calls-keep-form n call k f =
 drain-any : {n : ℕ} {c : Cabinet} → Sound n c → DrainsAny n (encode n c)
 unfolding encode
 drain-any {n} {c} s =
-    let d = drain-ends start (historyOf c) (c .view) (s .rising) in
-    let within = drain-within start (historyOf c) (c .view) in
+    let d = drain-ends (keptIn c) (historyOf c) (c .view) (s .rising) in
+    let within = drain-within (keptIn c) (historyOf c) (c .view) in
     let turns = length-map (drainOf c .events) eventAnswer in
     record {
       answered = drain-answered s;
@@ -68,7 +68,7 @@ module _ {n : ℕ} {c : Cabinet} (s : Sound n c) where
   -- where a turn is idle
   idle-drain : roundOf c ≡ idle → DrainsByTurns n (encode n c)
   idle-drain q =
-      let none : drainOf c ≡ drainNone (historyOf c) (c .view) = drain-idle start (historyOf c) (c .view) q in
+      let none : drainOf c ≡ drainNone (historyOf c) (c .view) = drain-idle (keptIn c) (historyOf c) (c .view) q in
       record {
         idle-leaves = λ i. rw (turn-call s, q);
         none-left = λ i. (rw (drain-events s, none), rw (drain-call s, none) (ap (encode n) (same-history c)));
@@ -84,18 +84,18 @@ module _ {n : ℕ} {c : Cabinet} (s : Sound n c) where
     next-sound = round-sound s q
 
     kept : Keeps (historyOf c) (c .view) h view
-    kept = subst (StepKeeps (historyOf c) (c .view)) q (round-keeps start (historyOf c) (c .view))
+    kept = subst (StepKeeps (historyOf c) (c .view)) q (round-keeps (keptIn c) (historyOf c) (c .view))
 
     next-history : historyOf next ≡ h
     next-history = withHistory-history c h view (s .placed) (keeps-length kept)
 
     first-turn : drainOf c ≡ drainMore e (drainOf next)
     first-turn =
-        drain-next start (historyOf c) (c .view) (s .rising) q
-        ∙ ap (λ (g : History). drainMore e (drainHistory start g view)) (sym next-history)
+        drain-next (keptIn c) (historyOf c) (c .view) (s .rising) q
+        ∙ ap (λ (g : History). drainMore e (drainHistory (keptIn c) g view)) (sym next-history)
 
     same-length : length (drainOf next .history) ≡ length (historyOf c)
-    same-length = keeps-length (drain-keeps start (historyOf next) view) ∙ ap length next-history ∙ keeps-length kept
+    same-length = keeps-length (drain-keeps (keptIn c) (historyOf next) view) ∙ ap length next-history ∙ keeps-length kept
 
     turn-drain : DrainsByTurns n (encode n c)
     turn-drain =

@@ -2,27 +2,29 @@
 use mathlib.Core.Path.{_≡_, refl, sym, ap}
 use mathlib.Core.Bool.{Bool, true, false, cond, not}
 use mathlib.Core.List.{List, [], _∷_}
-use Prim.Native.Nat.{ℕ}
+use Prim.Native.Nat.{ℕ, _≤_, _<_}
 use native.Mathlib.Omega.{arith}
-use borrow.Author.Tests.{eq-eqb}
-use lib.Dec.{eqb}
+use borrow.Author.Tests.{ltb-true, ltb-false, eqb-true, eq-eqb, not-false}
+use lib.Dec.{eqb, ltb}
 use lib.ListN.{length}
-use Rattle.machine.proofs.Cases.{by-test, by-test₂}
+use Rattle.machine.proofs.Cases.{by-test, by-test₂, both}
+use Rattle.model.specs.declared.Answer.{Answer}
 use Rattle.model.specs.declared.Answer.the-variants as answer
-use Rattle.model.specs.History.{start}
+use Rattle.model.specs.History.{infinity}
 use Rattle.model.specs.Figure.{Step, idle, turned}
 use Rattle.model.specs.Drain.{totalCount, totals}
-use Rattle.model.specs.Cabinet.{Cabinet, emptyCabinet, historyOf, withHistory}
+use Rattle.model.specs.Cabinet.{Cabinet, emptyCabinet, keptIn, historyOf, withHistory, cutAt}
 use Rattle.model.specs.Tables.{Tables, encode}
-use Rattle.model.specs.Refusals.{firstOf, wrongLength, notInForm, test}
+use Rattle.model.specs.Refusals.{firstOf, wrongLength, notInForm, noTimestamp, belowCutoff, waitsBelow, unsettledBelow, test}
 use Rattle.model.specs.Package.{Item, taking, withdrawing, layoutFits, itemsOf}
-use Rattle.model.specs.Calls.{itemAnswer, itemCall, takeIn, withdraw, itemStep, itemSteps, PackageReply, takeInPackage, stepReply, roundOf, turn, drainOf, drain, TotalsReply, totalsReply, drainWithTotals}
-use Rattle.model.specs.Log.{Call, takeInCall, packageCall, withdrawCall, turnCall, drainCall, turnEvents, drainEvents, stepEvents, Ledger, afterCall}
+use Rattle.model.specs.Calls.{Reply, reply, itemAnswer, itemCall, takeIn, withdraw, itemStep, itemSteps, PackageReply, takeInPackage, raiseCutoff, stepReply, roundOf, turn, drainOf, drain, TotalsReply, totalsReply, drainWithTotals}
+use Rattle.model.specs.Log.{Call, takeInCall, packageCall, withdrawCall, turnCall, drainCall, cutoffCall, turnEvents, drainEvents, stepEvents, Ledger, afterCall}
 use Rattle.model.specs.Sound.{Sound}
 use Rattle.model.proofs.Cabinet.{withHistory-history}
 use Rattle.model.proofs.Keeps.{keeps-length, drain-keeps, round-sound, drain-sound}
-use Rattle.model.proofs.Items.{of-answer, item-sound, items-sound}
+use Rattle.model.proofs.Items.{none-applies, of-answer, item-sound, items-sound}
 use Rattle.model.proofs.Order.{placed-of}
+use Rattle.model.proofs.Cutoff.{cut-sound}
 use Rattle.model.proofs.Tests.{Lengths}
 use Rattle.model.proofs.Tables.{decode-encode}
 use Rattle.model.proofs.Form.{encode-formed}
@@ -42,12 +44,17 @@ abbrev pub packageRefusal : ℕ → Cabinet → List ℕ → List ℕ → ℕ
 packageRefusal n c bytes answers =
     firstOf (wrongLength n (encode n c) (length answers) 512 ∷ notInForm n (encode n c) ∷ test 3 (not (layoutFits bytes)) ∷ [])
 
+-- the refusal of a cutoff, or 0
+abbrev pub cutoffRefusal : Cabinet → ℕ → ℕ
+cutoffRefusal c t = firstOf (noTimestamp t ∷ belowCutoff (c .cutoff) t ∷ unsettledBelow c t ∷ [])
+
 abbrev pub cabinetAfter : ℕ → Call → Cabinet → Cabinet
 cabinetAfter n (takeInCall t p) c = itemStep n c (taking t p)
 cabinetAfter n (packageCall bytes answers) c = cond (eqb (packageRefusal n c bytes answers) 0) (itemSteps n c (itemsOf bytes)) c
 cabinetAfter n (withdrawCall t) c = itemStep n c (withdrawing t)
 cabinetAfter n turnCall c = afterStep c (roundOf c)
 cabinetAfter n (drainCall lent) c = cond (eqb (length lent) totalCount) (drained c) c
+cabinetAfter n (cutoffCall t) c = cond (eqb (cutoffRefusal c t) 0) (cutAt t c) c
 
 -- a cabinet with nothing held
 pub empty-sound : (n : ℕ) (T : Tables) → Lengths n T → Sound n emptyCabinet
@@ -60,6 +67,9 @@ empty-sound n T l =
       placed = placed-of emptyCabinet refl tt tt;
       rising = tt;
       viewed = refl;
+      cut = omega arith;
+      uncut = tt;
+      kept-sized = refl;
     }
 
 -- ---- answers
@@ -95,8 +105,33 @@ module _ {n : ℕ} {c : Cabinet} (s : Sound n c) where
   pub drain-answered : DrainAnswered n (encode n c)
   drain-answered lent e = rw (totals-call lent, eq-eqb (length lent) totalCount e, drain-call, drain-events)
 
+  pub cutoff-call : (t : ℕ) → raiseCutoff n (encode n c) t ≡ cond (eqb (cutoffRefusal c t) 0) (reply answer.Done (encode n (cutAt t c))) (reply (answer.Refused (cutoffRefusal c t)) (encode n c))
+  unfolding raiseCutoff
+  cutoff-call t = rw (encode-formed s .sized, encode-formed s .form, decode-encode n c s)
+
+  pub drain-kept : drain n (encode n c) .tables .kept ≡ c .kept
+  unfolding encode
+  drain-kept = rw drain-call
+
   pub drained-history : historyOf (drained c) ≡ drainOf c .history
-  drained-history = withHistory-history c (drainOf c .history) (drainOf c .view) (s .placed) (keeps-length (drain-keeps start (historyOf c) (c .view)))
+  drained-history = withHistory-history c (drainOf c .history) (drainOf c .view) (s .placed) (keeps-length (drain-keeps (keptIn c) (historyOf c) (c .view)))
+
+-- ---- what a cutoff that is done tells
+
+-- it is a timestamp, not below the cutoff that there is, and no change below it waits
+pub record CutoffDone (c : Cabinet) (t : ℕ) : Type 0 where
+  pub below : t < infinity
+  pub from : c .cutoff ≤ t
+  pub none-waits : waitsBelow t (historyOf c) ≡ false
+
+pub cutoff-done : (c : Cabinet) (t : ℕ) → eqb (cutoffRefusal c t) 0 ≡ true → CutoffDone c t
+cutoff-done c t q =
+    let none = none-applies (noTimestamp t ∷ belowCutoff (c .cutoff) t ∷ unsettledBelow c t ∷ []) (omega arith) (eqb-true (cutoffRefusal c t) 0 q) in
+    record {
+      below = ltb-true t infinity (both (ltb 0 t) (not-false _ (none .0)) .1);
+      from = omega (arith, ltb-false t (c .cutoff) (none .1 .0));
+      none-waits = none .1 .1 .0;
+    }
 
 -- ---- tables
 
@@ -115,6 +150,8 @@ module _ {n : ℕ} {c : Cabinet} (s : Sound n c) where
       go (turned h view event) = refl
   call-tables (drainCall lent) k e =
       rw (e, totals-call s lent) (by-test₂ (λ (r : TotalsReply) (d : Cabinet). r .tables ≡ encode n d) (eqb (length lent) totalCount) (λ q. refl) (λ q. refl))
+  call-tables (cutoffCall t) k e =
+      rw (e, cutoff-call s t) (by-test₂ (λ (r : Reply Answer) (d : Cabinet). r .tables ≡ encode n d) (eqb (cutoffRefusal c t) 0) (λ q. refl) (λ q. refl))
 
   pub call-sound : (call : Call) → Sound n (cabinetAfter n call c)
   call-sound (takeInCall t p) = item-sound (taking t p) s
@@ -126,3 +163,4 @@ module _ {n : ℕ} {c : Cabinet} (s : Sound n c) where
       go idle q = s
       go (turned h view event) q = round-sound s q
   call-sound (drainCall lent) = by-test (Sound n) (eqb (length lent) totalCount) (λ q. drain-sound s) (λ q. s)
+  call-sound (cutoffCall t) = by-test (Sound n) (eqb (cutoffRefusal c t) 0) (λ q. cut-sound t (cutoff-done c t q .below) s) (λ q. s)

@@ -8,7 +8,7 @@ use native.Mathlib.Omega.{arith}
 use lib.IntN.{ℤ}
 use lib.ListN.{length}
 use Rattle.machine.specs.Settings.{Environment, Holds, after}
-use Rattle.model.specs.History.{start, New, Valid, Invalid, Lists, runLists, change, History, afterAll, allSettings}
+use Rattle.model.specs.History.{New, Valid, Invalid, Lists, runLists, change, History, afterAll, allSettings}
 use Rattle.model.specs.Figure.{Event, Step, idle, turned, eventTimestamp, round}
 use Rattle.model.specs.Drain.{Drain, drainNone, drainStep, drainFor, drainHistory, RisingEvents}
 use Rattle.model.specs.Book.{booked, bookOf, freshAfter, freshRun, freshEnd}
@@ -34,21 +34,21 @@ rising-one-turn a (e ∷ events) r = (rising-no-turn (eventTimestamp e) (eventTi
 -- ---- the drain
 
 -- what some turns keep
-record Kept (events : List Event) (h : History) (d : Drain) : Type 0 where
-  invariant : Invariant (events ++ d .events) (d .history) (d .view)
+record Kept (env : Environment) (cutoff : ℕ) (events : List Event) (h : History) (d : Drain) : Type 0 where
+  invariant : Invariant env cutoff (events ++ d .events) (d .history) (d .view)
   same-book : bookOf (d .history) ≡ bookOf h
-  none-in-vain : NoneInVain (bookOf h) events (d .events)
+  none-in-vain : NoneInVain env (bookOf h) events (d .events)
 
-no-turns : (events : List Event) (h : History) (view : List ℤ) → Invariant events h view → Kept events h (drainNone h view)
-no-turns events h view i = record { invariant = rw append-nil i; same-book = refl; none-in-vain = tt }
+no-turns : (env : Environment) (cutoff : ℕ) (events : List Event) (h : History) (view : List ℤ) → Invariant env cutoff events h view → Kept env cutoff events h (drainNone h view)
+no-turns env cutoff events h view i = record { invariant = rw append-nil i; same-book = refl; none-in-vain = tt }
 
-drainFor-kept : (k : ℕ) (events : List Event) (h : History) (view : List ℤ) → Rising 0 h → Invariant events h view → Kept events h (drainFor k start h view)
+drainFor-kept : (k : ℕ) (env : Environment) (cutoff : ℕ) (events : List Event) (h : History) (view : List ℤ) → Rising 0 h → Invariant env cutoff events h view → Kept env cutoff events h (drainFor k env h view)
 unfolding drainFor
-drainFor-kept zero events h view r i = no-turns events h view i
-drainFor-kept (suc k) events h view r i = go (drainFor-kept k) (round start h view) (round-keeps start h view) (turn-claim events h view r i)
+drainFor-kept zero env cutoff events h view r i = no-turns env cutoff events h view i
+drainFor-kept (suc k) env cutoff events h view r i = go (drainFor-kept k env cutoff) (round env h view) (round-keeps env h view) (turn-claim env cutoff events h view r i)
   where
-    go : ((events : List Event) (h : History) (view : List ℤ) → Rising 0 h → Invariant events h view → Kept events h (drainFor k start h view)) → (s : Step) → StepKeeps h view s → StepClaim events h s → Kept events h (drainStep (drainFor k start) (drainNone h view) s)
-    go ih idle n c = no-turns events h view i
+    go : ((events : List Event) (h : History) (view : List ℤ) → Rising 0 h → Invariant env cutoff events h view → Kept env cutoff events h (drainFor k env h view)) → (s : Step) → StepKeeps h view s → StepClaim env cutoff events h s → Kept env cutoff events h (drainStep (drainFor k env) (drainNone h view) s)
+    go ih idle n c = no-turns env cutoff events h view i
     go ih (turned h' view' e) n c =
         let rest = ih (events ++ (e ∷ [])) h' view' (keeps-rising 0 n r) (c .invariant) in
         record {
@@ -58,7 +58,7 @@ drainFor-kept (suc k) events h view r i = go (drainFor-kept k) (round start h vi
         }
 
 -- where every change is Valid, the history has the fresh run's lists, and its settings are those at the fresh run's end
-all-fresh : (env : Environment) (h : History) → AllConsistent env h → AllValid h → (map listed h ≡ freshRun (bookOf h) env) × (afterAll h env ≡ freshEnd (bookOf h) env)
+pub all-fresh : (env : Environment) (h : History) → AllConsistent env h → AllValid h → (map listed h ≡ freshRun (bookOf h) env) × (afterAll h env ≡ freshEnd (bookOf h) env)
 all-fresh env [] k v = (refl, refl)
 all-fresh env (change t p New w l ∷ h) k v = absurd v
 all-fresh env (change t p Invalid w l ∷ h) k v = absurd v
@@ -79,22 +79,22 @@ all-shown env events (change t p Valid false l ∷ h) k traced v =
     let holds : Holds env (runLists env' p .reads) = rw (lists, ← k .0) (runLists-holds env p) in
     (last ∙ ap some (sym (runLists-run env' env p holds)), all-shown (freshAfter (booked t p false) env) events h (rw (← k .0) at (k .1)) (traced .1) v)
 
-pub record DrainClaim (events : List Event) (h : History) (d : Drain) : Type 0 where
-  pub invariant : Invariant (events ++ d .events) (d .history) (d .view)
+pub record DrainClaim (env : Environment) (cutoff : ℕ) (events : List Event) (h : History) (d : Drain) : Type 0 where
+  pub invariant : Invariant env cutoff (events ++ d .events) (d .history) (d .view)
   pub same-book : bookOf (d .history) ≡ bookOf h
-  pub fresh-lists : map listed (d .history) ≡ freshRun (bookOf h) start
-  pub fresh-view : d .view ≡ allSettings (freshEnd (bookOf h) start)
+  pub fresh-lists : map listed (d .history) ≡ freshRun (bookOf h) env
+  pub fresh-view : d .view ≡ allSettings (freshEnd (bookOf h) env)
   pub one-turn-each : OneTurnEach (d .events)
-  pub none-in-vain : NoneInVain (bookOf h) events (d .events)
-  pub shown : AllShown (events ++ d .events) (bookOf h) start
+  pub none-in-vain : NoneInVain env (bookOf h) events (d .events)
+  pub shown : AllShown (events ++ d .events) (bookOf h) env
 
-pub drain-claim : (events : List Event) (h : History) (view : List ℤ) → Rising 0 h → Invariant events h view → DrainClaim events h (drainHistory start h view)
+pub drain-claim : (env : Environment) (cutoff : ℕ) (events : List Event) (h : History) (view : List ℤ) → Rising 0 h → Invariant env cutoff events h view → DrainClaim env cutoff events h (drainHistory env h view)
 unfolding drainHistory
-drain-claim events h view r i =
-    let d = drainFor (length h) start h view in
-    let k = drainFor-kept (length h) events h view r i in
-    let ends = drain-ends start h view r in
-    let f = all-fresh start (d .history) (k .invariant .consistent) (ends .all-valid) in
+drain-claim env cutoff events h view r i =
+    let d = drainFor (length h) env h view in
+    let k = drainFor-kept (length h) env cutoff events h view r i in
+    let ends = drain-ends env h view r in
+    let f = all-fresh env (d .history) (k .invariant .consistent) (ends .all-valid) in
     record {
       invariant = k .invariant;
       same-book = k .same-book;
@@ -102,5 +102,5 @@ drain-claim events h view r i =
       fresh-view = k .invariant .viewed ∙ ap allSettings (rw (k .same-book) at (f .1));
       one-turn-each = rising-one-turn 0 (d .events) (ends .rising-events);
       none-in-vain = k .none-in-vain;
-      shown = rw (k .same-book) at (all-shown start (events ++ d .events) (d .history) (k .invariant .consistent) (k .invariant .traced) (ends .all-valid));
+      shown = rw (k .same-book) at (all-shown env (events ++ d .events) (d .history) (k .invariant .consistent) (k .invariant .traced) (ends .all-valid));
     }

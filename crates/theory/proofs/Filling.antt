@@ -1,4 +1,4 @@
--- The items of a book, taken in one after the other where nothing is held, are all answered done and give the book again.
+-- The items of a book, taken in one after the other where nothing is held and the cutoff is 0, are all answered done and give the book again.
 use mathlib.Core.Path.{_≡_, refl, sym, ap, ap₂, subst, _∙_}
 use mathlib.Core.Bool.{Bool, true, false, cond}
 use mathlib.Core.List.{List, [], _∷_, _++_, map, append-nil}
@@ -21,7 +21,7 @@ use Rattle.model.specs.Book.{booked, Book, enter, strike, bookedAs, bookOf, boo
 use Rattle.model.specs.Calls.{answerNumber, itemAnswer, itemStep, itemAnswers}
 use Rattle.model.specs.Log.{bookDone, bookItem, bookItems}
 use Rattle.model.specs.Sound.{Rising, AllSound, Sound}
-use Rattle.model.proofs.Items.{item-sound, item-book}
+use Rattle.model.proofs.Items.{item-sound, item-cutoff, item-book}
 use Rattle.model.proofs.Order.{changesAt-length}
 
 -- ---- books
@@ -161,21 +161,21 @@ module _ {n : ℕ} {c : Cabinet} (s : Sound n c) where
   as-many : length (bookOf (historyOf c)) ≡ length (c .changes)
   as-many = length-map (historyOf c) bookedAs ∙ changesAt-length (c .changes) (c .order) ∙ s .placed .counted
 
-  accepted : (i : Item) → Accepts n (bookOf (historyOf c)) i → itemAnswer n c i ≡ Done
+  accepted : (i : Item) → c .cutoff ≡ 0 → Accepts n (bookOf (historyOf c)) i → itemAnswer n c i ≡ Done
   unfolding itemAnswer
-  accepted (taking t p) (above, below, (sized, versioned, formed), free, room) =
+  accepted (taking t p) uncut (above, below, (sized, versioned, formed), free, room) =
       let none-found : find t (historyOf c) ≡ none = unheld (find t (historyOf c)) (mark-found t (historyOf c) ∙ free) in
-      rw (lt-ltb 0 t above, lt-ltb t infinity below, sized, le-leb (p .version) 1 versioned, formed, none-found, lt-leb n (length (c .changes)) (omega (arith, room, as-many)))
-  accepted (withdrawing t) (above, below, marked) =
+      rw (lt-ltb 0 t above, lt-ltb t infinity below, le-ltb t (c .cutoff) (omega (arith, uncut)), sized, le-leb (p .version) 1 versioned, formed, none-found, lt-leb n (length (c .changes)) (omega (arith, room, as-many)))
+  accepted (withdrawing t) uncut (above, below, marked) =
       let (u, found, stands) = not-withdrawn (find t (historyOf c)) (mark-found t (historyOf c) ∙ marked) in
-      rw (lt-ltb 0 t above, lt-ltb t infinity below, found, stands)
+      rw (lt-ltb 0 t above, lt-ltb t infinity below, le-ltb t (c .cutoff) (omega (arith, uncut)), found, stands)
 
-pub all-done : {n : ℕ} {c : Cabinet} (items : List Item) (last : Book) → Sound n c → Fills n (bookOf (historyOf c)) items last → map answerNumber (itemAnswers n c items) ≡ replicate (length items) 0
-all-done [] last s f = refl
-all-done {n} {c} (i ∷ items) last s f =
-    let done = accepted s i (f .0) in
+pub all-done : {n : ℕ} {c : Cabinet} (items : List Item) (last : Book) → Sound n c → c .cutoff ≡ 0 → Fills n (bookOf (historyOf c)) items last → map answerNumber (itemAnswers n c items) ≡ replicate (length items) 0
+all-done [] last s uncut f = refl
+all-done {n} {c} (i ∷ items) last s uncut f =
+    let done = accepted s i uncut (f .0) in
     let next : bookOf (historyOf (itemStep n c i)) ≡ bookDone i (bookOf (historyOf c)) = item-book i s ∙ ap (λ (a : Answer). bookItem i (answerNumber a) (bookOf (historyOf c))) done in
-    ap₂ _∷_ (ap answerNumber done) (all-done items last (item-sound i s) (subst (λ (b : Book). Fills n b items last) (sym next) (f .1)))
+    ap₂ _∷_ (ap answerNumber done) (all-done items last (item-sound i s) (item-cutoff n c i .0 ∙ uncut) (subst (λ (b : Book). Fills n b items last) (sym next) (f .1)))
 
 -- the book by these answers
 pub all-booked : (n : ℕ) (book : Book) (items : List Item) (last : Book) (rest : List ℕ) → Fills n book items last → bookItems items (replicate (length items) 0 ++ rest) book ≡ last

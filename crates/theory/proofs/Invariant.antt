@@ -3,7 +3,7 @@ use mathlib.Core.Path.{_≡_, refl}
 use mathlib.Core.Bool.{true, false}
 use mathlib.Core.List.{List, [], _∷_, map}
 use mathlib.Core.Option.{none, some}
-use Prim.Native.Nat.{ℕ}
+use Prim.Native.Nat.{ℕ, _≤_}
 use lib.IntN.{ℤ}
 use Rattle.machine.specs.Settings.{Environment}
 use Rattle.machine.specs.Instruction.{Code}
@@ -40,12 +40,13 @@ abbrev pub AllTraced : List Event → History → Type 0
 AllTraced events [] = Unit {0}
 AllTraced events (c ∷ h) = Traced events c × AllTraced events h
 
-pub record Invariant (events : List Event) (h : History) (view : List ℤ) : Type 0 where
-  pub consistent : AllConsistent start h
-  pub viewed : view ≡ allSettings (afterAll h start)
+-- where runs begin from the settings env. A change that is not held has not run, but for those below the cutoff, which may have been dropped
+pub record Invariant (env : Environment) (cutoff : ℕ) (events : List Event) (h : History) (view : List ℤ) : Type 0 where
+  pub consistent : AllConsistent env h
+  pub viewed : view ≡ allSettings (afterAll h env)
   pub traced : AllTraced events h
-  pub unheld : (t : ℕ) → NotIn t (map timestamp h) → lastRan events t ≡ none
+  pub unheld : (t : ℕ) → cutoff ≤ t → NotIn t (map timestamp h) → lastRan events t ≡ none
 
 -- nothing held, every setting at its start, no turns
-pub empty-invariant : Invariant [] [] (allSettings start)
-empty-invariant = record { consistent = tt; viewed = refl; traced = tt; unheld = λ t n. refl }
+pub empty-invariant : Invariant start 0 [] [] (allSettings start)
+empty-invariant = record { consistent = tt; viewed = refl; traced = tt; unheld = λ t q n. refl }

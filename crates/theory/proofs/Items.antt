@@ -1,22 +1,30 @@
--- Taking in and withdrawing keep the invariant.
-use mathlib.Core.Path.{_≡_, refl, sym}
-use mathlib.Core.List.{List, [], _∷_, map}
+-- Taking in, withdrawing and a cutoff keep the invariant; what a cutoff drops had its fresh run.
+use mathlib.Core.Path.{_≡_, refl, sym, ap, _∙_}
+use mathlib.Core.Bool.{false}
+use mathlib.Core.List.{List, [], _∷_, _++_, map}
 use mathlib.Core.Option.{none}
-use Prim.Native.Nat.{ℕ}
+use Prim.Native.Nat.{ℕ, _≤_}
+use native.Mathlib.Omega.{arith}
+use borrow.Author.Tests.{ltb-true}
 use lib.Dec.{eqb, ltb}
 use lib.IntN.{ℤ}
 use Rattle.machine.specs.Settings.{Environment, lookup, after}
 use Rattle.machine.specs.Instruction.{Code}
 use Rattle.machine.proofs.Cases.{by-test}
-use Rattle.model.specs.History.{start, New, Valid, Invalid, Change, change, timestamp, History, afterChange, afterAll}
+use Rattle.model.specs.History.{New, Valid, Invalid, Change, change, timestamp, History, afterChange, afterAll, asOf, allSettings}
 use Rattle.model.specs.Walk.{insert}
 use Rattle.model.specs.Figure.{Event}
-use Rattle.model.specs.Cabinet.{find, flag}
-use Rattle.model.specs.Sound.{NotIn}
+use Rattle.model.specs.Cabinet.{find, flag, remaining}
+use Rattle.model.specs.Refusals.{waitsBelow}
+use Rattle.model.specs.Book.{Book, bookOf, bookBelow, freshEnd}
+use Rattle.model.specs.Sound.{Rising, NotIn}
 use Rattle.model.proofs.Cabinet.{withdrawIn}
 use Rattle.model.proofs.Keeps.{withdraw-keeps, find-rest}
+use Rattle.model.proofs.Figure.{afterAll-append}
+use Rattle.model.proofs.Cutoff.{stampedBelow, cut-in-two, asOf-dropped, book-dropped, dropped-valid}
 use Rattle.theory.specs.Demand.{lastRan}
 use Rattle.theory.proofs.Invariant.{Consistent, AllConsistent, Traced, AllTraced, Invariant}
+use Rattle.theory.proofs.Drains.{all-fresh}
 
 -- ---- taking in
 
@@ -47,13 +55,13 @@ module _ (t : ℕ) (p : Code) where
   insert-not-in u (c ∷ h) =
       by-test (λ (h' : History). NotIn u (map timestamp h') → NotIn u (map timestamp (c ∷ h))) (ltb t (timestamp c)) (λ z n. n .1) (λ z n. (n .0, insert-not-in u h (n .1)))
 
-  pub insert-invariant : (events : List Event) (h : History) (view : List ℤ) → find t h ≡ none → Invariant events h view → Invariant events (insert t p h) view
-  insert-invariant events h view f i =
+  pub insert-invariant : (env : Environment) (cutoff : ℕ) (events : List Event) (h : History) (view : List ℤ) → cutoff ≤ t → find t h ≡ none → Invariant env cutoff events h view → Invariant env cutoff events (insert t p h) view
+  insert-invariant env cutoff events h view from f i =
       record {
-        consistent = insert-consistent start h (i .consistent);
-        viewed = rw (insert-after h start) (i .viewed);
-        traced = insert-traced events h (i .unheld t (not-found t h f)) (i .traced);
-        unheld = λ u n. i .unheld u (insert-not-in u h n);
+        consistent = insert-consistent env h (i .consistent);
+        viewed = rw (insert-after h env) (i .viewed);
+        traced = insert-traced events h (i .unheld t from (not-found t h f)) (i .traced);
+        unheld = λ u q n. i .unheld u q (insert-not-in u h n);
       }
 
 -- ---- withdrawing
@@ -86,11 +94,54 @@ module _ (t : ℕ) where
   withdraw-traced events (c ∷ h) k =
       (by-test (Traced events) (eqb (timestamp c) t) (λ q. flag-traced events c (k .0)) (λ q. k .0), withdraw-traced events h (k .1))
 
-  pub withdraw-invariant : (events : List Event) (h : History) (view : List ℤ) → Invariant events h view → Invariant events (withdrawIn t h) view
-  withdraw-invariant events h view i =
+  pub withdraw-invariant : (env : Environment) (cutoff : ℕ) (events : List Event) (h : History) (view : List ℤ) → Invariant env cutoff events h view → Invariant env cutoff events (withdrawIn t h) view
+  withdraw-invariant env cutoff events h view i =
       record {
-        consistent = withdraw-consistent start h (i .consistent);
-        viewed = rw (withdraw-after h start) (i .viewed);
+        consistent = withdraw-consistent env h (i .consistent);
+        viewed = rw (withdraw-after h env) (i .viewed);
         traced = withdraw-traced events h (i .traced);
-        unheld = λ u n. i .unheld u (rw (withdraw-keeps t h view .timestamps) at n);
+        unheld = λ u q n. i .unheld u q (rw (withdraw-keeps t h view .timestamps) at n);
       }
+
+-- ---- a cutoff
+
+consistent-append : (env : Environment) (a h : History) → AllConsistent env (a ++ h) → AllConsistent env a × AllConsistent (afterAll a env) h
+consistent-append env [] h k = (tt, k)
+consistent-append env (c ∷ a) h k = let rest = consistent-append (afterChange c env) a h (k .1) in ((k .0, rest .0), rest .1)
+
+module _ (t : ℕ) where
+  remaining-traced : (events : List Event) (h : History) → AllTraced events h → AllTraced events (remaining t h)
+  remaining-traced events [] k = tt
+  remaining-traced events (c ∷ h) k =
+      let rest = remaining-traced events h (k .1) in
+      by-test (AllTraced events) (ltb (timestamp c) t) (λ q. rest) (λ q. (k .0, rest))
+
+  remaining-not-in : (u : ℕ) (h : History) → t ≤ u → NotIn u (map timestamp (remaining t h)) → NotIn u (map timestamp h)
+  remaining-not-in u [] q = λ n. tt
+  remaining-not-in u (c ∷ h) q =
+      by-test (λ (h' : History). NotIn u (map timestamp h') → NotIn u (map timestamp (c ∷ h))) (ltb (timestamp c) t)
+      (λ z n. (omega (arith, ltb-true (timestamp c) t z), remaining-not-in u h q n)) (λ z n. (n .0, remaining-not-in u h q (n .1)))
+
+  module _ (env : Environment) (h : History) (r : Rising 0 h) (k : AllConsistent env h) where
+    both-consistent : AllConsistent env (stampedBelow t h) × AllConsistent (afterAll (stampedBelow t h) env) (remaining t h)
+    both-consistent = consistent-append env (stampedBelow t h) (remaining t h) (rw (cut-in-two t 0 h r) k)
+
+    pub cut-invariant : (cutoff : ℕ) (events : List Event) (view : List ℤ) → cutoff ≤ t → Invariant env cutoff events h view → Invariant (asOf t h env) t events (remaining t h) view
+    cut-invariant cutoff events view from i =
+        record {
+          consistent = rw (asOf-dropped t h env) (both-consistent .1);
+          viewed =
+              i .viewed
+              ∙ ap (λ (g : History). allSettings (afterAll g env)) (sym (cut-in-two t 0 h r))
+              ∙ ap allSettings (afterAll-append (stampedBelow t h) (remaining t h) env)
+              ∙ ap (λ (env' : Environment). allSettings (afterAll (remaining t h) env')) (sym (asOf-dropped t h env));
+          traced = remaining-traced events h (i .traced);
+          unheld = λ u q n. i .unheld u (omega arith) (remaining-not-in u h q n);
+        }
+
+    -- where none below it waits, the values as of it are those that what it drops leaves in a fresh run
+    pub dropped-fresh : waitsBelow t h ≡ false → asOf t h env ≡ freshEnd (bookBelow t (bookOf h)) env
+    dropped-fresh w =
+        asOf-dropped t h env
+        ∙ all-fresh env (stampedBelow t h) (both-consistent .0) (dropped-valid t h w) .1
+        ∙ ap (λ (book : Book). freshEnd book env) (book-dropped t h)

@@ -5,11 +5,13 @@ pub mod Turns
 pub mod Drains
 pub mod Items
 pub mod Calls
+pub mod Dropped
 pub mod Reached
 pub mod AnyTables
 pub mod Demand
 pub mod Faults
 pub mod ReadBack
 pub mod Filling
+pub mod Cutoffs
 pub mod Packages
 pub mod Totals

@@ -1,7 +1,7 @@
 -- R-3 over cabinets, proved: what is written reads back, equal books write the same, and a cabinet filled from its neighbour drains to the same state.
-use mathlib.Core.Path.{_≡_, refl, sym, ap, ap₂, subst, _∙_}
+use mathlib.Core.Path.{_≡_, refl, sym, ap, subst, _∙_}
 use mathlib.Core.Bool.{true, false}
-use mathlib.Core.List.{List, [], _∷_, _++_, map}
+use mathlib.Core.List.{List, [], _∷_, _++_}
 use Prim.Native.Nat.{ℕ, _≤_}
 use native.Mathlib.Omega.{arith}
 use borrow.Author.Tests.{leb-true, eqb-true, eq-eqb, not-false}
@@ -12,29 +12,28 @@ use Rattle.machine.proofs.Cases.{by-test, both, impossible}
 use Rattle.model.specs.declared.Answer.the-variants.{Done}
 use Rattle.model.specs.declared.Packed.{Packed}
 use Rattle.model.specs.declared.Packed.the-variants.{Length, Refused}
-use Rattle.model.specs.History.{start, New, Valid, Invalid, Lists, change, History, allSettings}
 use Rattle.model.specs.Cabinet.{Cabinet, emptyCabinet, historyOf}
 use Rattle.model.specs.Tables.{Tables, decode}
 use Rattle.model.specs.Form.{lengthsFit, inForm, Formed}
 use Rattle.model.specs.Refusals.{firstOf, wrongLengths, notInForm, noRoom}
 use Rattle.model.specs.Package.{Item, layoutFits, itemsOf, packageOf}
-use Rattle.model.specs.Book.{Book, booked, bookOf, takings, withdrawals, bookedItems, freshRun, freshEnd}
+use Rattle.model.specs.Book.{Book, booked, bookOf, takings, withdrawals, bookedItems}
 use Rattle.model.specs.Calls.{setUp, takeInPackage, drain, heldItems, PackedReply, packageOut}
 use Rattle.model.specs.Log.{Call, packageCall, bookItems, Ledger, begun, afterCall}
 use Rattle.model.specs.Sound.{Sound}
-use Rattle.model.proofs.Keeps.{drain-sound, history-sound}
+use Rattle.model.proofs.Keeps.{history-sound}
 use Rattle.model.proofs.Items.{none-applies}
-use Rattle.model.proofs.Figure.{AllValid, drain-ends}
 use Rattle.model.proofs.Packing.{items-count}
 use Rattle.model.proofs.Tests.{lengths-of}
 use Rattle.model.proofs.Tables.{decode-encode}
 use Rattle.model.proofs.Form.{encode-formed, facts}
 use Rattle.theory.specs.Totals.{DrainAnswered}
-use Rattle.theory.specs.Demand.{listed, Drains}
 use Rattle.theory.specs.Packages.{cabinetOf, writtenOf, ReadsBack, SamePackage, takenInto, Filled}
-use Rattle.theory.proofs.Calls.{empty-sound, drained, drain-call, drained-history}
-use Rattle.theory.proofs.Reached.{Holding}
+use Rattle.theory.proofs.Calls.{empty-sound}
+use Rattle.theory.proofs.Dropped.{below-zero}
+use Rattle.theory.proofs.Reached.{Holding, all-sound}
 use Rattle.theory.proofs.Demand.{reached, demand3}
+use Rattle.theory.proofs.Cutoffs.{nothing-lost}
 use Rattle.theory.proofs.ReadBack.{AllPackable, items-back, layout-fits}
 use Rattle.theory.proofs.Filling.{SoundBook, sound-book, Fills, book-fills, all-done, all-booked}
 
@@ -135,28 +134,6 @@ same-package n T fits calls n' T' fits' calls' same bytes bytes' size size' e e'
     let items : packageOf (heldItems (k .tables)) ≡ packageOf (heldItems (k' .tables)) = ap packageOf (held-items n (r .cabinet) k (r .holding) ∙ ap bookedItems same ∙ sym (held-items n' (r' .cabinet) k' (r' .holding))) in
     (sym (w .sized) ∙ ap length items ∙ w' .sized, written-is n (k .tables) bytes size w ∙ items ∙ sym (written-is n' (k' .tables) bytes' size' w'))
 
--- ---- after a drain
-
--- a book with lists, every change Valid
-abbrev settled : Book → List (ℕ × Lists) → History
-settled [] lists = []
-settled (b ∷ book) [] = []
-settled (booked t p w ∷ book) (l ∷ lists) = change t p Valid w (l .1) ∷ settled book lists
-
-settled-is : (h : History) → AllValid h → h ≡ settled (bookOf h) (map listed h)
-settled-is [] v = refl
-settled-is (change t p New w l ∷ h) v = absurd v
-settled-is (change t p Invalid w l ∷ h) v = absurd v
-settled-is (change t p Valid w l ∷ h) v = ap (change t p Valid w l ∷_) (settled-is h v)
-
--- the changes are those of the book's fresh run
-drained-changes : (n : ℕ) (c : Cabinet) (k : Ledger) → Holding n c k → Drains n k → historyOf (decode (drain n (k .tables) .tables)) ≡ settled (k .book) (freshRun (k .book) start)
-drained-changes n c k h d =
-    let s = h .sound in
-    let back : historyOf (decode (drain n (k .tables) .tables)) ≡ historyOf (drained c) = rw (h .tables, drain-call s, decode-encode n (drained c) (drain-sound s)) in
-    let valid : AllValid (historyOf (drained c)) = rw (drained-history s) (drain-ends start (historyOf c) (c .view) (s .rising) .all-valid) in
-    settled-is (historyOf (decode (drain n (k .tables) .tables))) (subst AllValid (sym back) valid) ∙ ap₂ settled (d .booked) (d .fresh-lists)
-
 -- ---- filling
 
 -- a package whose items fill a book, taken into tables just set up
@@ -165,7 +142,7 @@ unfolding setUp takeInPackage
 taken-in n U written answers book fits long layout fills =
     let s : Sound n emptyCabinet = empty-sound n U (lengths-of n U fits) in
     let f = encode-formed s in
-    rw (fits, f .sized, f .form, eq-eqb (length answers) 512 long, layout, decode-encode n emptyCabinet s, all-done (itemsOf written) book s fills) (refl, refl)
+    rw (fits, f .sized, f .form, eq-eqb (length answers) 512 long, layout, decode-encode n emptyCabinet s, all-done (itemsOf written) book s refl fills) (refl, refl)
 
 -- the ledger after it
 module _ (n : ℕ) (T : Tables) (written answers : List ℕ) where
@@ -177,46 +154,44 @@ module _ (n : ℕ) (T : Tables) (written answers : List ℕ) where
   unfolding afterCall
   package-book done = rw done
 
+  package-dropped : afterCall n (packageCall written answers) (begun T) .dropped ≡ []
+  unfolding afterCall
+  package-dropped = refl
+
 -- what is claimed of the tables after it
 record DrainsAs (n : ℕ) (k : Ledger) (n' : ℕ) (U : Tables) : Type 0 where
   answered : DrainAnswered n' U
   changes : historyOf (decode (drain n' U .tables)) ≡ historyOf (decode (drain n (k .tables) .tables))
   view : drain n' U .tables .view ≡ drain n (k .tables) .tables .view
 
--- cabinets with equal books drain to the same state
-same-drained : (n : ℕ) (T : Tables) → lengthsFit n T ≡ true → (calls : List Call) → (n' : ℕ) (T' : Tables) → lengthsFit n' T' ≡ true → (calls' : List Call) → cabinetOf n' T' calls' .book ≡ cabinetOf n T calls .book → DrainsAs n (cabinetOf n T calls) n' (cabinetOf n' T' calls' .tables)
-same-drained n T fits calls n' T' fits' calls' same =
+-- cabinets with equal books that have dropped nothing drain to the same state
+same-drained : (n : ℕ) (T : Tables) → lengthsFit n T ≡ true → (calls : List Call) → (n' : ℕ) (T' : Tables) → lengthsFit n' T' ≡ true → (calls' : List Call) → cabinetOf n T calls .dropped ≡ [] → cabinetOf n' T' calls' .dropped ≡ [] → cabinetOf n' T' calls' .book ≡ cabinetOf n T calls .book → DrainsAs n (cabinetOf n T calls) n' (cabinetOf n' T' calls' .tables)
+same-drained n T fits calls n' T' fits' calls' none none' same =
     let k = cabinetOf n T calls in
     let k' = cabinetOf n' T' calls' in
-    let r = reached n T fits calls in
-    let r' = reached n' T' fits' calls' in
-    let d = demand3 n T fits calls in
-    let d' = demand3 n' T' fits' calls' in
+    let lost = nothing-lost n T fits calls n' T' fits' calls' none' (same ∙ ap (_++ k .book) (sym none)) in
     record {
-      answered = d' .answered;
-      changes =
-          drained-changes n' (r' .cabinet) k' (r' .holding) d'
-          ∙ ap (λ (book : Book). settled book (freshRun book start)) same
-          ∙ sym (drained-changes n (r .cabinet) k (r .holding) d);
-      view = d' .fresh-view ∙ ap (λ (book : Book). allSettings (freshEnd book start)) same ∙ sym (d .fresh-view);
+      answered = demand3 n' T' fits' calls' .answered;
+      changes = sym (lost .same-changes ∙ ap (λ (dropped : Book). drop (length dropped) (historyOf (decode (drain n' (k' .tables) .tables)))) none);
+      view = sym (lost .same-view);
     }
 
 pub filled : (n : ℕ) (T : Tables) → lengthsFit n T ≡ true → (calls : List Call) → Filled n (cabinetOf n T calls)
-filled n T fits calls bytes size e n' U answers fits' room long =
+filled n T fits calls uncut bytes size e n' U answers fits' room long =
     let k = cabinetOf n T calls in
     let r = reached n T fits calls in
-    let s = r .holding .sound in
+    let none : k .dropped ≡ [] = below-zero (k .dropped) (rw uncut at (demand3 n T fits calls .dropped-below)) in
     let written = writtenOf n (k .tables) bytes size in
     let back = reads-back n (k .tables) bytes size e in
     let items : itemsOf written ≡ bookedItems (k .book) = back .items ∙ held-items n (r .cabinet) k (r .holding) in
-    let sound : SoundBook 0 (k .book) = subst (SoundBook 0) (r .holding .booked) (sound-book 0 (historyOf (r .cabinet)) (s .rising) (history-sound s)) in
+    let sound : SoundBook 0 (k .book) = subst (λ (dropped : Book). SoundBook 0 (dropped ++ k .book)) none (all-sound (r .holding)) in
     let fills : Fills n' [] (itemsOf written) (k .book) = rw (← items) at (book-fills n' (k .book) sound room) in
     let taken = taken-in n' U written answers (k .book) fits' long (back .layout) fills in
     let same : cabinetOf n' U (packageCall written answers ∷ []) .book ≡ k .book =
     package-book n' (setUp n' U .tables) written answers (taken .0)
     ∙ ap (λ (l : List ℕ). bookItems (itemsOf written) l []) (taken .1)
     ∙ all-booked n' [] (itemsOf written) (k .book) (drop (length (itemsOf written)) answers) fills in
-    let d = subst (DrainsAs n k n') (package-tables n' (setUp n' U .tables) written answers) (same-drained n T fits calls n' U fits' (packageCall written answers ∷ []) same) in
+    let d = subst (DrainsAs n k n') (package-tables n' (setUp n' U .tables) written answers) (same-drained n T fits calls n' U fits' (packageCall written answers ∷ []) none (package-dropped n' (setUp n' U .tables) written answers) same) in
     record {
       done = taken .0;
       each-done = taken .1 ∙ ap (λ (m : ℕ). replicate m 0 ++ drop m answers) (items-count written);

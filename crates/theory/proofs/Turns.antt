@@ -2,25 +2,24 @@
 use mathlib.Core.Path.{_≡_, refl, sym, ap, _∙_}
 use mathlib.Core.Bool.{Bool, true, false, cond}
 use mathlib.Core.List.{List, [], _∷_, _++_, map}
-use mathlib.Core.Option.{some}
 use Prim.Native.Nat.{ℕ, _<_, _≤_}
 use native.Mathlib.Omega.{arith}
 use borrow.Author.Tests.{lt-ltb, le-ltb}
 use lib.IntN.{ℤ}
-use Rattle.machine.specs.Settings.{Environment, valueIn, Holds, after}
+use Rattle.machine.specs.Settings.{Environment, valueIn, after}
 use Rattle.machine.specs.Instruction.{Code}
 use Rattle.machine.specs.Run.{Outcome, run}
 use Rattle.machine.proofs.Cases.{by-test, impossible, true-is-not-false}
-use Rattle.model.specs.History.{start, Status, New, Valid, Invalid, Lists, empty, runLists, Change, change, timestamp, History, afterAll, allSettings, allHold}
+use Rattle.model.specs.History.{Status, New, Valid, Invalid, Lists, empty, runLists, Change, change, timestamp, History, afterAll, allSettings, allHold}
 use Rattle.model.specs.Figure.{Event, ran, stood, cleared, Step, idle, turned, eventTimestamp, round}
 use Rattle.model.specs.Walk.{differs, markLive, liveAtEnd, pass, settle, retry, walk}
-use Rattle.model.specs.Book.{Book, booked, bookOf, freshLists, freshBefore}
+use Rattle.model.specs.Book.{Book, booked, bookOf, freshLists}
 use Rattle.model.specs.Sound.{Rising, NotIn}
 use Rattle.model.proofs.Values.{value-allSettings, allSettings-same}
 use Rattle.model.proofs.Programs.{runLists-same, runLists-reads, allHold-holds, holds-allHold}
 use Rattle.model.proofs.Keeps.{StepKeeps, round-keeps}
 use Rattle.model.proofs.Figure.{round-walk}
-use Rattle.theory.specs.Demand.{lastRan, NotInVain}
+use Rattle.theory.specs.Demand.{NotInVain}
 use Rattle.theory.proofs.Events.{last-other, last-stood, last-ran}
 use Rattle.theory.proofs.Invariant.{Consistent, AllConsistent, LastRan, Traced, AllTraced, Invariant}
 use Rattle.theory.proofs.Marking.{differs-agree, marked-consistent, marked-after, marked-book, marked-traced, agree-after, live-unwritten}
@@ -45,30 +44,19 @@ later-traced events e b (c ∷ h) q r k =
 
 -- ---- a run that is not in vain
 
--- NotInVain, where the fresh run begins with these settings
-abbrev NotInVainFrom : Environment → Book → List Event → Event → Type 0
-NotInVainFrom env book earlier (ran t new) = (old : Outcome) → lastRan earlier t ≡ some old → ¬ (Holds (freshBefore t book env) (old .reads))
-NotInVainFrom env book earlier (stood t) = Unit {0}
-NotInVainFrom env book earlier (cleared t) = Unit {0}
-
-from-start : (book : Book) (earlier : List Event) (e : Event) → NotInVainFrom start book earlier e → NotInVain book earlier e
-from-start book earlier (ran t new) n = n
-from-start book earlier (stood t) n = tt
-from-start book earlier (cleared t) n = tt
-
 -- a Valid change has the fresh run's lists
 pub valid-fresh : (env : Environment) (t : ℕ) (p : Code) (w : Bool) (l : Lists) → Consistent env (change t p Valid w l) → freshLists (booked t p w) env ≡ l
 valid-fresh env t p true l k = sym k
 valid-fresh env t p false l k = k
 
 -- what holds of the turns from the settings after a Valid change holds from those before it
-passed-not-in-vain : (env : Environment) (t : ℕ) (p : Code) (w : Bool) (l : Lists) (book : Book) (events : List Event) (e : Event) → Consistent env (change t p Valid w l) → t < eventTimestamp e → NotInVainFrom (after (l .writes) env) book events e → NotInVainFrom env (booked t p w ∷ book) events e
+passed-not-in-vain : (env : Environment) (t : ℕ) (p : Code) (w : Bool) (l : Lists) (book : Book) (events : List Event) (e : Event) → Consistent env (change t p Valid w l) → t < eventTimestamp e → NotInVain (after (l .writes) env) book events e → NotInVain env (booked t p w ∷ book) events e
 passed-not-in-vain env t p w l book events (ran u new) k q n = λ old r s. n old r (rw (lt-ltb t u q, valid-fresh env t p w l k) at s)
 passed-not-in-vain env t p w l book events (stood u) k q n = tt
 passed-not-in-vain env t p w l book events (cleared u) k q n = tt
 
 -- a run is not in vain where a value seen is no longer the setting's
-changed-not-in-vain : (env : Environment) (book : Book) (events : List Event) (t : ℕ) (p : Code) (l : Lists) (new : Outcome) → LastRan events t p l → allHold (l .reads) env ≡ false → NotInVainFrom env (booked t p false ∷ book) events (ran t new)
+changed-not-in-vain : (env : Environment) (book : Book) (events : List Event) (t : ℕ) (p : Code) (l : Lists) (new : Outcome) → LastRan events t p l → allHold (l .reads) env ≡ false → NotInVain env (booked t p false ∷ book) events (ran t new)
 changed-not-in-vain env book events t p l new (env', last, lists) f old r s =
     let same : old ≡ run env' p = cc in
     let reads : old .reads ≡ l .reads = ap (λ (o : Outcome). o .reads) same ∙ sym (runLists-reads env' p) ∙ ap (λ (m : Lists). m .reads) lists in
@@ -83,7 +71,7 @@ record Kept (env : Environment) (b : ℕ) (events : List Event) (h h' : History)
   viewed : view' ≡ allSettings (afterAll h' env)
   traced : AllTraced (events ++ (e ∷ [])) h'
   same-book : bookOf h' ≡ bookOf h
-  not-in-vain : NotInVainFrom env (bookOf h) events e
+  not-in-vain : NotInVain env (bookOf h) events e
   later : b < eventTimestamp e
   held : (t : ℕ) → NotIn t (map timestamp h) → ¬ (eventTimestamp e ≡ t)
 
@@ -103,7 +91,7 @@ settle-viewed env view old new h v =
     ∙ ap allSettings (sym (marked-after live h later))
 
 module _ (env : Environment) (view : List ℤ) (b : ℕ) (events : List Event) (t : ℕ) (p : Code) (s : Status) (w : Bool) (l : Lists) (h : History) (k : AllConsistent env (change t p s w l ∷ h)) (v : view ≡ allSettings (afterAll h (after (l .writes) env))) (r : Rising b (change t p s w l ∷ h)) (tr : AllTraced events (change t p s w l ∷ h)) where
-  settle-kept : (new : Lists) (e : Event) → eventTimestamp e ≡ t → Consistent env (change t p Valid w new) → Traced (events ++ (e ∷ [])) (change t p Valid w new) → NotInVainFrom env (bookOf (change t p s w l ∷ h)) events e → KeptStep env b events (change t p s w l ∷ h) (settle env view t p w l new h e)
+  settle-kept : (new : Lists) (e : Event) → eventTimestamp e ≡ t → Consistent env (change t p Valid w new) → Traced (events ++ (e ∷ [])) (change t p Valid w new) → NotInVain env (bookOf (change t p s w l ∷ h)) events e → KeptStep env b events (change t p s w l ∷ h) (settle env view t p w l new h e)
   settle-kept new e q k' tr' f =
       record {
         consistent = (k', marked-consistent (differs l new env) (after (l .writes) env) (after (new .writes) env) (differs-agree l new env) h (k .1));
@@ -158,23 +146,23 @@ walk-kept env view b events (change t p Invalid false l ∷ h) k v r tr =
         settle-kept env view b events t p Invalid false l h k v r tr (runLists env p) (ran t (run env p)) refl refl (env, last-ran events t (run env p), refl)
         (changed-not-in-vain env (bookOf h) events t p l (run env p) (tr .0) q)
 
--- ---- a turn from the start
+-- ---- a turn
 
-pub record TurnClaim (events : List Event) (h h' : History) (view' : List ℤ) (e : Event) : Type 0 where
-  pub invariant : Invariant (events ++ (e ∷ [])) h' view'
+pub record TurnClaim (env : Environment) (cutoff : ℕ) (events : List Event) (h h' : History) (view' : List ℤ) (e : Event) : Type 0 where
+  pub invariant : Invariant env cutoff (events ++ (e ∷ [])) h' view'
   pub same-book : bookOf h' ≡ bookOf h
-  pub not-in-vain : NotInVain (bookOf h) events e
+  pub not-in-vain : NotInVain env (bookOf h) events e
 
-abbrev pub StepClaim : List Event → History → Step → Type 0
-StepClaim events h idle = Unit {0}
-StepClaim events h (turned h' view' e) = TurnClaim events h h' view' e
+abbrev pub StepClaim : Environment → ℕ → List Event → History → Step → Type 0
+StepClaim env cutoff events h idle = Unit {0}
+StepClaim env cutoff events h (turned h' view' e) = TurnClaim env cutoff events h h' view' e
 
-pub turn-claim : (events : List Event) (h : History) (view : List ℤ) → Rising 0 h → Invariant events h view → StepClaim events h (round start h view)
-turn-claim events h view r i =
-    go (round start h view) (round-keeps start h view)
-    (rw (round-walk start h view 0 r) (walk-kept start view 0 events h (i .consistent) (i .viewed) r (i .traced)))
+pub turn-claim : (env : Environment) (cutoff : ℕ) (events : List Event) (h : History) (view : List ℤ) → Rising 0 h → Invariant env cutoff events h view → StepClaim env cutoff events h (round env h view)
+turn-claim env cutoff events h view r i =
+    go (round env h view) (round-keeps env h view)
+    (rw (round-walk env h view 0 r) (walk-kept env view 0 events h (i .consistent) (i .viewed) r (i .traced)))
   where
-    go : (s : Step) → StepKeeps h view s → KeptStep start 0 events h s → StepClaim events h s
+    go : (s : Step) → StepKeeps h view s → KeptStep env 0 events h s → StepClaim env cutoff events h s
     go idle n k = tt
     go (turned h' view' e) n k =
         record {
@@ -183,8 +171,8 @@ turn-claim events h view r i =
                 consistent = k .consistent;
                 viewed = k .viewed;
                 traced = k .traced;
-                unheld = λ t m. let m' = rw (n .timestamps) at m in last-other events e t (k .held t m') ∙ i .unheld t m';
+                unheld = λ t q m. let m' = rw (n .timestamps) at m in last-other events e t (k .held t m') ∙ i .unheld t q m';
               };
           same-book = k .same-book;
-          not-in-vain = from-start (bookOf h) events e (k .not-in-vain);
+          not-in-vain = k .not-in-vain;
         }

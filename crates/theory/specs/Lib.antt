@@ -3,3 +3,4 @@ pub mod Demand
 pub mod Faults
 pub mod AnyTables
 pub mod Packages
+pub mod Cutoffs

@@ -60,10 +60,11 @@ pub record FilledWith (n : ℕ) (k : Ledger) (n' : ℕ) (U : Tables) (written an
   -- and the same value of every setting
   pub view : drain n' (takenInto n' U written answers .tables) .tables .view ≡ drain n (k .tables) .tables .view
 
--- for any capacity that holds the neighbour's changes, tables with any contents that are then set up, and any answer slice of 512
+-- "filling an empty cabinet holds only where both cabinets have cutoff 0" (document 02, R-7): the empty one has it, just set up, and the neighbour's is a premise. For any capacity that holds the neighbour's changes, tables with any contents that are then set up, and any answer slice of 512
 abbrev pub Filled : ℕ → Ledger → Type 0
 Filled n k =
-    (bytes : List ℕ) (size : ℕ)
+    k .cutoff ≡ 0
+    → (bytes : List ℕ) (size : ℕ)
     → packageOut n (k .tables) bytes .answer ≡ Length size
     → (n' : ℕ) (U : Tables) (answers : List ℕ)
     → lengthsFit n' U ≡ true

@@ -13,10 +13,10 @@ use lib.ListN.{length, getD, set, take, drop, length-append, List·getD-append}
 use lib.Seq.{length-take-le, drop-at, getD-take, getD-append-add}
 use Rattle.machine.specs.Settings.{Environment, after}
 use Rattle.model.specs.declared.Turned.the-variants as turn-answer
-use Rattle.model.specs.History.{start, Status, Valid, Change, timestamp, status, withdrawn, lists, History, afterAll, allHold}
+use Rattle.model.specs.History.{Status, Valid, Change, timestamp, status, withdrawn, lists, History, afterAll, allHold}
 use Rattle.model.specs.Figure.{Event, turned}
 use Rattle.model.specs.Walk.{markLive}
-use Rattle.model.specs.Cabinet.{Cabinet, blank, historyOf, withHistory}
+use Rattle.model.specs.Cabinet.{Cabinet, keptIn, blank, historyOf, withHistory}
 use Rattle.model.specs.Tables.{Tables, heldCount, listIn, statusNumber, flagNumber, encode, decode}
 use Rattle.model.specs.Calls.{reply, eventAnswer, stepReply, roundOf}
 use Rattle.model.specs.Form.{Formed}
@@ -124,7 +124,7 @@ module _ {n : ℕ} {T : Tables} (g : Formed n T) (k : ℕ) (h : k < heldCount T)
 -- none waits
 pub turn-idle : {T : Tables} → Formed (length (T .order)) T → waitingIn T ≡ none → reply turn-answer.Idle T ≡ turns.turned T
 unfolding turns.turned
-turn-idle {T} g w = sym (ap (stepReply (length (T .order)) T (decode T)) (round-walk start (historyIn T) (decode T .view) 0 (facts g .sound .rising) ∙ walk-none g w start (decode T .view)))
+turn-idle {T} g w = sym (ap (stepReply (length (T .order)) T (decode T)) (round-walk (keptIn (decode T)) (historyIn T) (decode T .view) 0 (facts g .sound .rising) ∙ walk-none g w (keptIn (decode T)) (decode T .view)))
 
 module _ {T : Tables} (g : Formed (length (T .order)) T) (k : ℕ) (w : waitingIn T ≡ some k) where
   abbrev n : ℕ
@@ -144,7 +144,7 @@ module _ {T : Tables} (g : Formed (length (T .order)) T) (k : ℕ) (w : waitingI
 
   -- what `decide` answers
   abbrev pub actIn : Act
-  actIn = actOf (getD (T .withdrawn) place 0) (getD (T .status) place 0) (allHold (listIn (T .reads) (T .sources) (T .seen) place) (valuesBelow (T .order) (T .writes) (T .targets) (T .written) k))
+  actIn = actOf (getD (T .withdrawn) place 0) (getD (T .status) place 0) (allHold (listIn (T .reads) (T .sources) (T .seen) place) (valuesBelow (T .order) (T .writes) (T .targets) (T .written) (T .kept) k))
 
   flag-here : getD (T .withdrawn) place 0 ≡ flagNumber (withdrawn here)
   flag-here =
@@ -169,8 +169,8 @@ module _ {T : Tables} (g : Formed (length (T .order)) T) (k : ℕ) (w : waitingI
   -- the round, where the change does this
   pub turns-by : {a : Act} {h : History} {view : List ℤ} {e : Event} → a ≡ actIn → stepBy a (uptoIn T k) (decode T .view) here later ≡ turned h view e → roundOf (decode T) ≡ turned (take k (historyIn T) ++ h) view e
   turns-by {h = h} {view} {e} d q =
-      round-walk start (historyIn T) (decode T .view) 0 (facts g .sound .rising)
-      ∙ walk-some g k w start (decode T .view)
+      round-walk (keptIn (decode T)) (historyIn T) (decode T .view) 0 (facts g .sound .rising)
+      ∙ walk-some g k w (keptIn (decode T)) (decode T .view)
       ∙ ap (passes (take k (historyIn T)))
       (walk-acts (uptoIn T k) (decode T .view) here later (waiting-some g k w .here)
       ∙ ap (λ (a : Act). stepBy a (uptoIn T k) (decode T .view) here later) (sym (d ∙ act-is))
@@ -201,13 +201,16 @@ module _ {T : Tables} (g : Formed (length (T .order)) T) (k : ℕ) (w : waitingI
     formed-next = subst (λ (m : ℕ). Formed m U) (sym next-capacity) (subst (Formed n) (sym u) (encode-formed next-sound))
 
     next-length : length (take k (historyIn T) ++ new ∷ rest) ≡ length (historyIn T)
-    next-length = keeps-length (subst (StepKeeps (historyIn T) (decode T .view)) r (round-keeps start (historyIn T) (decode T .view)))
+    next-length = keeps-length (subst (StepKeeps (historyIn T) (decode T .view)) r (round-keeps (keptIn (decode T)) (historyIn T) (decode T .view)))
 
     history-next : historyIn U ≡ take k (historyIn T) ++ new ∷ rest
     history-next =
         ap historyIn u
         ∙ ap historyOf (decode-encode n next next-sound)
         ∙ withHistory-history (decode T) (take k (historyIn T) ++ new ∷ rest) view (facts g .sound .placed) next-length
+
+    kept-next : keptIn (decode U) ≡ keptIn (decode T)
+    kept-next = ap (λ (W : Tables). keptIn (decode W)) u ∙ ap keptIn (decode-encode n next next-sound)
 
     held-next : heldCount U ≡ heldCount T
     held-next = sym (history-length formed-next) ∙ ap length history-next ∙ next-length ∙ history-length g
@@ -230,24 +233,24 @@ module _ {T : Tables} (g : Formed (length (T .order)) T) (k : ℕ) (w : waitingI
             ∙ ap (λ (q : Status). not (eqb (statusNumber q) 1)) v
 
     -- the values as of the next position are those after its writes
-    values-next-turn : valuesBelow (U .order) (U .writes) (U .targets) (U .written) (suc k) ≡ after (lists new .writes) (valuesBelow (T .order) (T .writes) (T .targets) (T .written) k)
+    values-next-turn : valuesBelow (U .order) (U .writes) (U .targets) (U .written) (U .kept) (suc k) ≡ after (lists new .writes) (valuesBelow (T .order) (T .writes) (T .targets) (T .written) (T .kept) k)
     values-next-turn =
         values-below formed-next (suc k) (omega (arith, held, held-next))
-        ∙ ap (λ (x : History). afterAll (take (suc k) x) start) history-next
-        ∙ ap (λ (m : ℕ). afterAll (take (suc m) (take k (historyIn T) ++ new ∷ rest)) start) (sym below-length)
-        ∙ after-first (take k (historyIn T)) new rest start
+        ∙ ap₂ (λ (x : History) (env : Environment). afterAll (take (suc k) x) env) history-next kept-next
+        ∙ ap (λ (m : ℕ). afterAll (take (suc m) (take k (historyIn T) ++ new ∷ rest)) (keptIn (decode T))) (sym below-length)
+        ∙ after-first (take k (historyIn T)) new rest (keptIn (decode T))
         ∙ ap (after (lists new .writes)) (sym (values-below g k (omega (arith, held))))
 
     pub going-next :
         {known : List ℕ} {before after' : List ℤ} {readers writers settled : List ℕ} →
         status new ≡ Valid →
-        Known (after (lists new .writes) (valuesBelow (T .order) (T .writes) (T .targets) (T .written) k)) known before after' →
+        Known (after (lists new .writes) (valuesBelow (T .order) (T .writes) (T .targets) (T .written) (T .kept) k)) known before after' →
         Uses (k + 1 + 1) (encode n next) readers writers settled →
         turns.Going (k + 1) U known before after' readers writers settled
     going-next {known} {before} {after'} {readers} {writers} {settled} v q p =
         record {
           formed = formed-next;
           passed = λ j h. passed-next v j (omega arith);
-          values = subst (λ (env : Environment). Known env known before after') (sym (ap (valuesBelow (U .order) (U .writes) (U .targets) (U .written)) (add-one k) ∙ values-next-turn)) q;
+          values = subst (λ (env : Environment). Known env known before after') (sym (ap (valuesBelow (U .order) (U .writes) (U .targets) (U .written) (U .kept)) (add-one k) ∙ values-next-turn)) q;
           uses = subst (λ (W : Tables). Uses (k + 1 + 1) W readers writers settled) (sym u) p;
         }

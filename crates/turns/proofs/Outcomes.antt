@@ -78,7 +78,7 @@ module _ {T : Tables} (g : Formed (length (T .order)) T) (k : ℕ) (w : waitingI
   held-here : k < heldCount T
   held-here = held g k w
 
-  upto : valuesBelow (T .order) (T .writes) (T .targets) (T .written) k ≡ env
+  upto : valuesBelow (T .order) (T .writes) (T .targets) (T .written) (T .kept) k ≡ env
   upto = values-below g k (omega (arith, held-here))
 
   -- ---- it stood
@@ -104,7 +104,7 @@ module _ {T : Tables} (g : Formed (length (T .order)) T) (k : ℕ) (w : waitingI
 
     pub going-stood :
         {known : List ℕ} {before after₀ before' after' : List ℤ} {readers writers settled : List ℕ} →
-        Known (valuesBelow (T .order) (T .writes) (T .targets) (T .written) k) known before after₀ →
+        Known (valuesBelow (T .order) (T .writes) (T .targets) (T .written) (T .kept) k) known before after₀ →
         Carried (listIn (T .writes) (T .targets) (T .written) place) before after₀ before' after' →
         Uses (k + 1) T readers writers settled →
         turns.Going (k + 1) (withStatus T status') known before' after' readers writers settled
@@ -144,7 +144,7 @@ module _ {T : Tables} (g : Formed (length (T .order)) T) (k : ℕ) (w : waitingI
     abbrev viewOf : List ℤ
     viewOf = allSettings (λ x. cond (liveAtEnd changes (later g k w) x) (after (new .writes) env x) (valueIn (decode T .view) x))
 
-    module _ {readers writers status' : List ℕ} {view' : List ℤ} {settled' known' : List ℕ} {before' after' : List ℤ} (p : Propagated k (columnsOf T) (T .written) (entries (l .writes) (l .targets) (l .written)) readers writers (T .status) (T .view) status' view' settled' known' before' after') {settled : List ℕ} (u : Uses (k + 1) T readers writers settled) where
+    module _ {readers writers status' : List ℕ} {view' : List ℤ} {settled' known' : List ℕ} {before' after' : List ℤ} (p : Propagated k (columnsOf T) (T .written) (T .kept) (entries (l .writes) (l .targets) (l .written)) readers writers (T .status) (T .view) status' view' settled' known' before' after') {settled : List ℕ} (u : Uses (k + 1) T readers writers settled) where
       agree : Agree (λ x. holds x (p .changed)) changes
       agree x h =
           let old = wrote g k held-here in
@@ -172,7 +172,7 @@ module _ {T : Tables} (g : Formed (length (T .order)) T) (k : ℕ) (w : waitingI
             let values = put .wrote .values-put ∙ ap (λ (list : List ℤ). replacedZ place list (T .written)) wrote-values in
             let view = view-left in
             λ j.
-            tables (T .held) (T .timestamps) (T .order) (s j) (T .withdrawn) (T .lengths) (T .programs) (reads j) (writes j) (sources j) (seen j) (targets j) (values j) (view j) (T .versions)
+            tables (T .held) (T .timestamps) (T .order) (s j) (T .withdrawn) (T .lengths) (T .programs) (reads j) (writes j) (sources j) (seen j) (targets j) (values j) (view j) (T .versions) (T .cutoff) (T .kept)
 
         left-settled : left ≡ encode n (withHistory (decode T) (take k (historyIn T) ++ replacing ∷ markLive changes (later g k w)) viewOf)
         left-settled =
@@ -190,11 +190,11 @@ module _ {T : Tables} (g : Formed (length (T .order)) T) (k : ℕ) (w : waitingI
           going-left : turns.Going (k + 1) left known' before' after' readers writers settled'
           going-left =
               going-next g k w replacing (markLive changes (later g k w)) viewOf left-round left-settled refl
-              (subst (λ (x : List Entry). Known (after x (valuesBelow (T .order) (T .writes) (T .targets) (T .written) k)) known' before' after') written (p .values))
+              (subst (λ (x : List Entry). Known (after x (valuesBelow (T .order) (T .writes) (T .targets) (T .written) (T .kept) k)) known' before' after') written (p .values))
               (uses-turned g k (p .changed) changes agree held-here replacing viewOf u (p .settings) (p .marked) (p .settled-to) (next-sound g k w replacing (markLive changes (later g k w)) viewOf left-round left-settled))
 
   -- it was cleared or ran
-  module _ {a : Act} (d : a ≡ actIn g k w) (moves : a ≡ act.Stand → ⊥) {t : ℕ} (s : t ≡ getD (T .timestamps) place 0) {version : ℕ} (v : version ≡ getD (T .versions) place 0) {readers writers settled : List ℕ} (u : Uses (k + 1) T readers writers settled) {status' : List ℕ} {C' : Columns} {seen' written' view' : List ℤ} {settled' known' : List ℕ} {before' after' : List ℤ} {new : Run} (r : replacement.Replaced a version new k (columnsOf T) (T .seen) (T .written) (T .lengths) (T .programs) readers writers (T .status) (T .view) status' C' seen' written' view' settled' known' before' after') {status'' : List ℕ} (q : status'' ≡ set status' place 1) where
+  module _ {a : Act} (d : a ≡ actIn g k w) (moves : a ≡ act.Stand → ⊥) {t : ℕ} (s : t ≡ getD (T .timestamps) place 0) {version : ℕ} (v : version ≡ getD (T .versions) place 0) {readers writers settled : List ℕ} (u : Uses (k + 1) T readers writers settled) {status' : List ℕ} {C' : Columns} {seen' written' view' : List ℤ} {settled' known' : List ℕ} {before' after' : List ℤ} {new : Run} (r : replacement.Replaced a version new k (columnsOf T) (T .seen) (T .written) (T .kept) (T .lengths) (T .programs) readers writers (T .status) (T .view) status' C' seen' written' view' settled' known' before' after') {status'' : List ℕ} (q : status'' ≡ set status' place 1) where
     abbrev pub leftTables : Tables
     leftTables = withTurn T status'' (C' .reads) (C' .writes) (C' .sources) seen' (C' .targets) written' view'
 
@@ -211,7 +211,7 @@ module _ {T : Tables} (g : Formed (length (T .order)) T) (k : ℕ) (w : waitingI
         fits : Fitting l
         fits = made-fits _ _ moves short (r .made)
 
-        same : run (valuesBelow (T .order) (T .writes) (T .targets) (T .written) k) (code version (programIn (T .lengths) (T .programs) place)) ≡ run env (program this)
+        same : run (valuesBelow (T .order) (T .writes) (T .targets) (T .written) (T .kept) k) (code version (programIn (T .lengths) (T .programs) place)) ≡ run env (program this)
         same = ap₂ run upto (ap (λ (x : ℕ). code x (programIn (T .lengths) (T .programs) place)) v ∙ program-here g k held-here)
 
         go : (b : Act) → a ≡ b → (reply (turns.answerBy a new (timestamp this)) leftTables ≡ turns.turned T) × turns.Going (k + 1) leftTables known' before' after' readers writers settled'

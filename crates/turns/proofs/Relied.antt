@@ -88,8 +88,8 @@ module _ {n : ℕ} {T : Tables} (g : Formed n T) (k : ℕ) (h : k < heldCount T)
   pub write-settings : OfSettings (slots 32 place (getD (T .writes) place 0) (T .targets))
   write-settings = tested-settings _ (facts g .form .writes place place-held .distinct)
 
-  pub lookable : {known : List ℕ} {before after : List ℤ} → Known (valuesBelow (T .order) (T .writes) (T .targets) (T .written) k) known before after → Lookable k (T .order) (T .writes) (T .targets) (T .written) known before after
-  lookable q = record { placed = placed-writes g k (omega (arith, h)); listed = listed g; right = q }
+  pub lookable : {known : List ℕ} {before after : List ℤ} → Known (valuesBelow (T .order) (T .writes) (T .targets) (T .written) (T .kept) k) known before after → Lookable k (T .order) (T .writes) (T .targets) (T .written) (T .kept) known before after
+  lookable q = record { placed = placed-writes g k (omega (arith, h)); listed = listed g; kept-sized = facts g .sizes .kept; right = q }
 
   storable : (l : NewLists) → Fitting l → ListsStorable place l (T .reads) (T .writes) (T .sources) (T .seen) (T .targets) (T .written)
   storable l f =
@@ -116,9 +116,9 @@ module _ {n : ℕ} {T : Tables} (g : Formed n T) (k : ℕ) (h : k < heldCount T)
   -- for `replace`
   pub replaceable :
       {known : List ℕ} {before after : List ℤ} {readers writers settled : List ℕ} →
-      Known (valuesBelow (T .order) (T .writes) (T .targets) (T .written) k) known before after →
+      Known (valuesBelow (T .order) (T .writes) (T .targets) (T .written) (T .kept) k) known before after →
       Uses (k + 1) T readers writers settled →
-      Replaceable k (columnsOf T) (T .seen) (T .written) (T .lengths) (T .programs) (T .status) (T .view) known before after readers settled
+      Replaceable k (columnsOf T) (T .seen) (T .written) (T .kept) (T .lengths) (T .programs) (T .status) (T .view) known before after readers settled
   replaceable q u =
       record {
         runnable = runnable;

@@ -95,7 +95,7 @@ module _ (n : ℕ) (c : Cabinet) (s : Sound n c) (k : ℕ) (h : k < length (c .c
     map-same : {B : Type 0} (g : ℕ → Code → Bool → B) → map (fieldOf g) now ≡ map (fieldOf g) (c .changes)
     map-same g = map-set-same (fieldOf g) (c .changes) place new blank ((rw (r .stamped, r .programmed, r .flagged)) ∙ ap (fieldOf g) old)
 
-    laid-out : encode n (record { changes = now; order = c .order; view = view }) ≡ replacedTables (encode n c) k new view
+    laid-out : encode n (record { changes = now; order = c .order; view = view; cutoff = c .cutoff; kept = c .kept }) ≡ replacedTables (encode n c) k new view
     unfolding encode
     laid-out =
         let read = reads-fit (c .changes) (s .each) in
@@ -114,8 +114,8 @@ module _ (n : ℕ) (c : Cabinet) (s : Sound n c) (k : ℕ) (h : k < length (c .c
         let written = values-replaced n (λ d. lists d .writes) (c .changes) wrote place held-place new (r .writes-short) in
         let versions = ap (pad n 0) (map-same (λ t p w. p .version)) in
         λ j.
-        tables (held j) (timestamps j) (encode n c .order) (statuses j) (flags j) (lengths j) (programs j) (reads j) (writes j) (sources j) (seen j) (targets j) (written j) view (versions j)
+        tables (held j) (timestamps j) (encode n c .order) (statuses j) (flags j) (lengths j) (programs j) (reads j) (writes j) (sources j) (seen j) (targets j) (written j) view (versions j) (encode n c .cutoff) (c .kept)
 
     -- the tables of the cabinet with that history
     pub replaced-tables : replacedTables (encode n c) k new view ≡ encode n (withHistory c (take k (historyOf c) ++ new ∷ drop (suc k) (historyOf c)) view)
-    replaced-tables = sym (ap (λ (changes : List Change). encode n (record { changes = changes; order = c .order; view = view })) together ∙ laid-out)
+    replaced-tables = sym (ap (λ (changes : List Change). encode n (record { changes = changes; order = c .order; view = view; cutoff = c .cutoff; kept = c .kept })) together ∙ laid-out)

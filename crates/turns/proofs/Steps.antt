@@ -42,13 +42,13 @@ module _ {noted : Bool} {k : ℕ} {T : Tables} {known : List ℕ} {before after 
   pub turn-slots : Slots T k
   turn-slots = slots-of (t .formed) k held-here
 
-  pub decision : Decidable k (T .order) (T .status) (T .withdrawn) (T .reads) (T .sources) (T .seen) (length (T .writes)) × Lookable k (T .order) (T .writes) (T .targets) (T .written) known before after
+  pub decision : Decidable k (T .order) (T .status) (T .withdrawn) (T .reads) (T .sources) (T .seen) (length (T .writes)) × Lookable k (T .order) (T .writes) (T .targets) (T .written) (T .kept) known before after
   decision = (decidable (t .formed) k held-here, lookable (t .formed) k held-here (t .values))
 
   pub turn-carries : (getD (T .order) k 0 < length (T .writes)) × WriteLists (T .writes) (T .targets) (T .written) × OfSettings (slots 32 place (getD (T .writes) place 0) (T .targets))
   turn-carries = carriable (t .formed) k held-here
 
-  module _ {a : Act} {known' : List ℕ} {before' after' : List ℤ} (d : (a ≡ actIn (t .formed) k (t .waits)) × Looked (valuesBelow (T .order) (T .writes) (T .targets) (T .written) k) known known' before' after') where
+  module _ {a : Act} {known' : List ℕ} {before' after' : List ℤ} (d : (a ≡ actIn (t .formed) k (t .waits)) × Looked (valuesBelow (T .order) (T .writes) (T .targets) (T .written) (T .kept) k) known known' before' after') where
     -- it stands
     pub turn-stands :
         {b : Bool} {stamp : ℕ} {status' : List ℕ} {before'' after'' : List ℤ} →
@@ -74,7 +74,7 @@ module _ {noted : Bool} {k : ℕ} {T : Tables} {known : List ℕ} {before after 
       pub turn-uses : Uses (k + 1) T readers' writers' settled
       turn-uses = uses-noted (t .notes) u
 
-      pub lists-replaceable : Replaceable k (columnsOf T) (T .seen) (T .written) (T .lengths) (T .programs) (T .status) (T .view) known' before' after' readers' settled
+      pub lists-replaceable : Replaceable k (columnsOf T) (T .seen) (T .written) (T .kept) (T .lengths) (T .programs) (T .status) (T .view) known' before' after' readers' settled
       lists-replaceable = replaceable (t .formed) k held-here (d .1 .right) turn-uses
 
       -- it is cleared or runs
@@ -83,7 +83,7 @@ module _ {noted : Bool} {k : ℕ} {T : Tables} {known : List ℕ} {before after 
           (moves : a ≡ act.Stand → ⊥) →
           (s : stamp ≡ getD (T .timestamps) place 0) →
           (v : version ≡ getD (T .versions) place 0) →
-          (r : Replaced a version new k (columnsOf T) (T .seen) (T .written) (T .lengths) (T .programs) readers' writers' (T .status) (T .view) status' C' seen' written' view' settled' known'' before'' after'') →
+          (r : Replaced a version new k (columnsOf T) (T .seen) (T .written) (T .kept) (T .lengths) (T .programs) readers' writers' (T .status) (T .view) status' C' seen' written' view' settled' known'' before'' after'') →
           (q : status'' ≡ set status' place 1) →
           answer ≡ answerBy a new stamp →
           let U = leftTables (t .formed) k (t .waits) (d .0) moves s v turn-uses r q in (reply answer U ≡ turned T) × (noted ≡ true → Going (k + 1) U known'' before'' after'' readers' writers' settled')

@@ -29,14 +29,14 @@ turned T = stepReply (length (T .order)) T (decode T) (roundOf (decode T))
 pub record Going (k : ℕ) (T : Tables) (known : List ℕ) (before after : List ℤ) (readers writers settled : List ℕ) : Type 0 where
   pub formed : Formed (length (T .order)) T
   pub passed : (j : ℕ) → j < k → isWaiting (T .order) (T .status) j ≡ false
-  pub values : Known (valuesBelow (T .order) (T .writes) (T .targets) (T .written) k) known before after
+  pub values : Known (valuesBelow (T .order) (T .writes) (T .targets) (T .written) (T .kept) k) known before after
   pub uses : Uses (k + 1) T readers writers settled
 
 -- the change at a position has its turn; what is noted of the settings above it, if anything is
 pub record Turnable (noted : Bool) (k : ℕ) (T : Tables) (known : List ℕ) (before after : List ℤ) (readers writers settled : List ℕ) : Type 0 where
   pub formed : Formed (length (T .order)) T
   pub waits : waitingIn T ≡ some k
-  pub values : Known (valuesBelow (T .order) (T .writes) (T .targets) (T .written) k) known before after
+  pub values : Known (valuesBelow (T .order) (T .writes) (T .targets) (T .written) (T .kept) k) known before after
   pub notes : Noted noted (k + 1) T readers writers settled
 
 -- ---- by what is done with a change

@@ -69,6 +69,8 @@ pub fn turn_at(
     written: &mut [i32],
     view: &mut [i32],
     versions: &[u16],
+    cutoff: &[u64],
+    kept: &[i32],
     before: &mut [i32; 1024],
     after: &mut [i32; 1024],
     known: &mut [u8; 1024],
@@ -79,14 +81,14 @@ pub fn turn_at(
     requires { ⌜
         (let T =
         tables (now held) (now timestamps) (now order) (now status) (now withdrawn) (now lengths) (now programs) (now reads)
-        (now writes) (now sources) (now seen) (now targets) (now written) (now view) (now versions) in
+        (now writes) (now sources) (now seen) (now targets) (now written) (now view) (now versions) (now cutoff) (now kept) in
         Turnable noted k T (now known) (now before) (now after) (now readers) (now writers) (now settled))
         ⌝ }
     ensures { λ r. ⌜
         (let T =
         tables (now (held .entry)) (now (timestamps .entry)) (now (order .entry)) (now (status .entry)) (now (withdrawn .entry))
         (now (lengths .entry)) (now (programs .entry)) (now (reads .entry)) (now (writes .entry)) (now (sources .entry))
-        (now (seen .entry)) (now (targets .entry)) (now (written .entry)) (now (view .entry)) (now (versions .entry)) in
+        (now (seen .entry)) (now (targets .entry)) (now (written .entry)) (now (view .entry)) (now (versions .entry)) (now (cutoff .entry)) (now (kept .entry)) in
         let U =
         withTurn T (now (status .exit)) (now (reads .exit)) (now (writes .exit)) (now (sources .exit)) (now (seen .exit))
         (now (targets .exit)) (now (written .exit)) (now (view .exit)) in
@@ -109,6 +111,7 @@ pub fn turn_at(
         writes,
         targets,
         written,
+        kept,
         before,
         after,
         known,
@@ -147,6 +150,7 @@ pub fn turn_at(
         targets,
         written,
         view,
+        kept,
         before,
         after,
         known,
@@ -175,15 +179,17 @@ pub fn turn_once(
     written: &mut [i32],
     view: &mut [i32],
     versions: &[u16],
+    cutoff: &[u64],
+    kept: &[i32],
 ) -> Turned
     requires { ⌜ Formed (length (now order))
         (tables (now held) (now timestamps) (now order) (now status) (now withdrawn) (now lengths) (now programs) (now reads)
-        (now writes) (now sources) (now seen) (now targets) (now written) (now view) (now versions)) ⌝ }
+        (now writes) (now sources) (now seen) (now targets) (now written) (now view) (now versions) (now cutoff) (now kept)) ⌝ }
     ensures { λ r. ⌜
         (let T =
         tables (now (held .entry)) (now (timestamps .entry)) (now (order .entry)) (now (status .entry)) (now (withdrawn .entry))
         (now (lengths .entry)) (now (programs .entry)) (now (reads .entry)) (now (writes .entry)) (now (sources .entry))
-        (now (seen .entry)) (now (targets .entry)) (now (written .entry)) (now (view .entry)) (now (versions .entry)) in
+        (now (seen .entry)) (now (targets .entry)) (now (written .entry)) (now (view .entry)) (now (versions .entry)) (now (cutoff .entry)) (now (kept .entry)) in
         reply r
         (withTurn T (now (status .exit)) (now (reads .exit)) (now (writes .exit)) (now (sources .exit)) (now (seen .exit))
         (now (targets .exit)) (now (written .exit)) (now (view .exit)))
@@ -217,6 +223,8 @@ pub fn turn_once(
                 written,
                 view,
                 versions,
+                cutoff,
+                kept,
                 &mut before,
                 &mut after,
                 &mut known,

@@ -13,10 +13,7 @@ use lib.ListN.{length, getD, set, replicate, length-set, length-replicate, getD-
 use lib.Seq.{getD-set-same, getD-set-other}
 use Rattle.machine.specs.Settings.{settingCount, Environment, Entry, valueIn, _orElse_, lookup, after, carry}
 use Rattle.machine.proofs.Settings.{or-if-else, carry-after, length-carry}
-use Rattle.model.specs.History.{start, allSettings}
 use Rattle.model.specs.Tables.{listIn}
-use Rattle.model.proofs.Tabulate.{length-tabulate}
-use Rattle.model.proofs.Values.{value-allSettings}
 use Rattle.search.specs.Searches.{previousWrite}
 use Rattle.values.specs.Values.{valuesBelow, IsKnown, AllKnown, Known, Looked, Carried, CarriedBelow}
 
@@ -115,27 +112,27 @@ none-known env =
 
 -- ---- all are known
 
--- start values in both lists, and each noted as known
-pub known-start : {before after : List ℤ} → before ≡ allSettings start → after ≡ allSettings start → Known start (replicate 1024 1) before after
-known-start {before} {after} b a =
+-- the kept values in both lists, and each noted as known
+pub known-kept : {kept before after : List ℤ} → length kept ≡ settingCount → before ≡ kept → after ≡ kept → Known (valueIn kept) (replicate 1024 1) before after
+known-kept n b a =
     record {
-      sizes = record { notes = length-replicate {A = ℕ} 1024 1; befores = ap length b ∙ length-tabulate settingCount start; afters = ap length a ∙ length-tabulate settingCount start };
-      before-is = λ s l q. ap (λ (v : List ℤ). valueIn v s) b ∙ value-allSettings start s l;
-      after-is = λ s l q. ap (λ (v : List ℤ). valueIn v s) a ∙ value-allSettings start s l;
+      sizes = record { notes = length-replicate {A = ℕ} 1024 1; befores = ap length b ∙ n; afters = ap length a ∙ n };
+      before-is = λ s l q. ap (λ (v : List ℤ). valueIn v s) b;
+      after-is = λ s l q. ap (λ (v : List ℤ). valueIn v s) a;
     }
 
 -- ---- up the order list
 
-module _ (order writes targets : List ℕ) (written : List ℤ) where
-  -- as of the first position: the start values
-  pub values-first : valuesBelow order writes targets written 0 ≡ start
+module _ (order writes targets : List ℕ) (written kept : List ℤ) where
+  -- as of the first position: the kept values
+  pub values-first : valuesBelow order writes targets written kept 0 ≡ valueIn kept
   unfolding previousWrite
   values-first = refl
 
   -- as of the next: the writes of the change at this one carried into the values as of it
-  pub values-next : (k : ℕ) → valuesBelow order writes targets written (suc k) ≡ after (listIn writes targets written (getD order k 0)) (valuesBelow order writes targets written k)
+  pub values-next : (k : ℕ) → valuesBelow order writes targets written kept (suc k) ≡ after (listIn writes targets written (getD order k 0)) (valuesBelow order writes targets written kept k)
   unfolding previousWrite
-  values-next k = fun-ext (λ s. or-if-else (lookup (listIn writes targets written (getD order k 0)) s) (previousWrite order writes targets written s k) (start s))
+  values-next k = fun-ext (λ s. or-if-else (lookup (listIn writes targets written (getD order k 0)) s) (previousWrite order writes targets written s k) (valueIn kept s))
 
 -- writes carried into both lists of values are carried into the environment
 pub known-carried :
@@ -152,22 +149,22 @@ known-carried {env} {known} {before} {after₀} {before'} {after'} {writes} h c 
 
 -- past a change whose writes are carried: the values as of the next position
 pub known-next :
-    (order writes targets : List ℕ) (written : List ℤ) (k : ℕ) {known : List ℕ} {before after₀ before' after' : List ℤ} →
-    Known (valuesBelow order writes targets written k) known before after₀ →
+    (order writes targets : List ℕ) (written kept : List ℤ) (k : ℕ) {known : List ℕ} {before after₀ before' after' : List ℤ} →
+    Known (valuesBelow order writes targets written kept k) known before after₀ →
     Carried (listIn writes targets written (getD order k 0)) before after₀ before' after' →
-    Known (valuesBelow order writes targets written (suc k)) known before' after'
-known-next order writes targets written k {known} {before} {after₀} {before'} {after'} h c =
-    subst (λ (env : Environment). Known env known before' after') (sym (values-next order writes targets written k)) (known-carried h c)
+    Known (valuesBelow order writes targets written kept (suc k)) known before' after'
+known-next order writes targets written kept k {known} {before} {after₀} {before'} {after'} h c =
+    subst (λ (env : Environment). Known env known before' after') (sym (values-next order writes targets written kept k)) (known-carried h c)
 
 -- the writes of the changes below a position carried, one change after the other
 module _ (order writes targets : List ℕ) (written : List ℤ) {before after₀ : List ℤ} where
   pub carried-none : CarriedBelow 0 order writes targets written before after₀ before after₀
   carried-none =
-      record { right = λ known h. subst (λ (env : Environment). Known env known before after₀) (sym (values-first order writes targets written)) h }
+      record { right = λ kept known h. subst (λ (env : Environment). Known env known before after₀) (sym (values-first order writes targets written kept)) h }
 
   pub carried-more :
       {j : ℕ} {before₁ after₁ before₂ after₂ : List ℤ} →
       CarriedBelow j order writes targets written before after₀ before₁ after₁ →
       Carried (listIn writes targets written (getD order j 0)) before₁ after₁ before₂ after₂ →
       CarriedBelow (j + 1) order writes targets written before after₀ before₂ after₂
-  carried-more {j} b c = record { right = λ known h. rw (add-one j) (known-next order writes targets written j (b .right known h) c) }
+  carried-more {j} b c = record { right = λ kept known h. rw (add-one j) (known-next order writes targets written kept j (b .right kept known h) c) }

@@ -1,16 +1,16 @@
 -- The values as of a position, and the change at it, in tables that are in form, as they are in the history that the tables hold.
-use mathlib.Core.Path.{_≡_, sym, ap, subst⁻¹, fun-ext, _∙_}
+use mathlib.Core.Path.{_≡_, refl, sym, ap, subst⁻¹, fun-ext, _∙_}
 use mathlib.Core.Bool.{true}
 use mathlib.Core.List.{List, [], _∷_}
 use Prim.Native.Nat.{ℕ, zero, suc, _≤_, _<_}
 use native.Mathlib.Omega.{arith}
 use lib.IntN.{ℤ}
 use lib.ListN.{length, getD, take}
-use Rattle.machine.specs.Settings.{settingCount, Environment, Entry, entries, Distinct}
+use Rattle.machine.specs.Settings.{settingCount, Environment, valueIn, Entry, entries, Distinct}
 use Rattle.machine.specs.Instruction.{Code}
 use Rattle.machine.specs.Form.{wellFormed}
-use Rattle.model.specs.History.{start, Change, program, lists, afterAll}
-use Rattle.model.specs.Cabinet.{blank}
+use Rattle.model.specs.History.{Change, program, lists, afterAll}
+use Rattle.model.specs.Cabinet.{keptIn, blank}
 use Rattle.model.specs.Tables.{Tables, settingsOf, heldCount, programAt, readsAt, decode}
 use Rattle.model.specs.Form.{Formed}
 use Rattle.model.specs.Sound.{ChangeSound}
@@ -37,14 +37,19 @@ new-settings count settings values b d =
 
 -- the values as of a position, by the tables and by the history
 abbrev pub belowIn : Tables → ℕ → Environment
-belowIn T k = valuesBelow (T .order) (T .writes) (T .targets) (T .written) k
+belowIn T k = valuesBelow (T .order) (T .writes) (T .targets) (T .written) (T .kept) k
 
 abbrev pub uptoIn : Tables → ℕ → Environment
-uptoIn T k = afterAll (take k (historyIn T)) start
+uptoIn T k = afterAll (take k (historyIn T)) (keptIn (decode T))
+
+-- the kept values, by the tables and by what they hold
+pub kept-in : (T : Tables) → keptIn (decode T) ≡ valueIn (T .kept)
+unfolding decode
+kept-in T = refl
 
 module _ {n : ℕ} {T : Tables} (g : Formed n T) where
   pub values-below : (k : ℕ) → k ≤ heldCount T → belowIn T k ≡ uptoIn T k
-  values-below k h = fun-ext (λ s. sym (after-below g start s k h))
+  values-below k h = rw (kept-in T) (fun-ext (λ s. sym (after-below g (valueIn (T .kept)) s k h)))
 
   module _ (k : ℕ) (h : k < heldCount T) where
     abbrev place : ℕ

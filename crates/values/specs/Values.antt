@@ -7,13 +7,13 @@ use lib.Dec.{ltb}
 use lib.IntN.{ℤ, pos}
 use lib.ListN.{length, getD, set, take}
 use Rattle.machine.specs.Settings.{settingCount, Environment, valueIn, Entry, _orElse_, carry}
-use Rattle.model.specs.History.{start, eqZ}
+use Rattle.model.specs.History.{eqZ}
 use Rattle.model.specs.Tables.{slots}
 use Rattle.search.specs.Searches.{previousWrite, PlacesWithin, WriteLists, OfSettings}
 
--- the values as of a position of the order list
-abbrev pub valuesBelow : List ℕ → List ℕ → List ℕ → List ℤ → ℕ → Environment
-valuesBelow order writes targets written position s = previousWrite order writes targets written s position orElse start s
+-- the values as of a position of the order list: those of previous writes, or the kept ones
+abbrev pub valuesBelow : List ℕ → List ℕ → List ℕ → List ℤ → List ℤ → ℕ → Environment
+valuesBelow order writes targets written kept position s = previousWrite order writes targets written s position orElse valueIn kept s
 
 -- the values of settings, 0 for every other number
 abbrev pub onSettings : Environment → Environment
@@ -42,10 +42,11 @@ pub record Known (env : Environment) (known : List ℕ) (before after : List ℤ
   pub after-is : (s : ℕ) → s < settingCount → IsKnown known s → valueIn after s ≡ env s
 
 -- values can be looked up as of a position: the write lists can be searched, and those noted as known are right
-pub record Lookable (position : ℕ) (order writes targets : List ℕ) (written : List ℤ) (known : List ℕ) (before after : List ℤ) : Type 0 where
+pub record Lookable (position : ℕ) (order writes targets : List ℕ) (written kept : List ℤ) (known : List ℕ) (before after : List ℤ) : Type 0 where
   pub placed : PlacesWithin position order (length writes)
   pub listed : WriteLists writes targets written
-  pub right : Known (valuesBelow order writes targets written position) known before after
+  pub kept-sized : length kept ≡ settingCount
+  pub right : Known (valuesBelow order writes targets written kept position) known before after
 
 -- after values were looked up, those known are right, and what was known is known still
 pub record Looked (env : Environment) (earlier known : List ℕ) (before after : List ℤ) : Type 0 where
@@ -63,9 +64,9 @@ pub record Carriable (position : ℕ) (order writes targets : List ℕ) (written
   pub listed : WriteLists writes targets written
   pub settings : (j : ℕ) → j < position → OfSettings (slots 32 (getD order j 0) (getD writes (getD order j 0) 0) targets)
 
--- their writes are carried into both lists: of start values, those as of the position
+-- their writes are carried into both lists: of kept values, those as of the position
 pub record CarriedBelow (position : ℕ) (order writes targets : List ℕ) (written before after before' after' : List ℤ) : Type 0 where
-  pub right : (known : List ℕ) → Known start known before after → Known (valuesBelow order writes targets written position) known before' after'
+  pub right : (kept : List ℤ) (known : List ℕ) → Known (valueIn kept) known before after → Known (valuesBelow order writes targets written kept position) known before' after'
 
 -- ---- where two lists of values differ
 

@@ -1,6 +1,5 @@
 // The values that a turn works with: those as of its position, looked up once each and then known, and those that the change of the turn alters.
 use bytecode::program::instruction_at;
-use fresh::start_value;
 use run_record::Run;
 use run_record::wanted;
 use search::Written;
@@ -20,7 +19,7 @@ ghost use Rattle.search.specs.Searches.{OfSettings, PlacesWithin, WriteLists};
 ghost use Rattle.values.specs.Values.{valuesBelow, onSettings, IsKnown, AllKnown, Lookable, Looked};
 ghost use Rattle.values.specs.Values.{Carried, Carriable, CarriedBelow, Collected, restored};
 
-// The value of a setting as of a position of the order list: that of the previous write, or the start value.
+// The value of a setting as of a position of the order list: that of the previous write, or the kept value.
 pub fn value_below(
     s: u16,
     k: usize,
@@ -28,13 +27,16 @@ pub fn value_below(
     writes: &[u16],
     targets: &[u16],
     written: &[i32],
+    kept: &[i32],
 ) -> i32
-    requires { ⌜ PlacesWithin k (now order) (length (now writes)) × WriteLists (now writes) (now targets) (now written) ⌝ }
-    ensures { λ r. ⌜ r ≡ valuesBelow (now (order .entry)) (now (writes .entry)) (now (targets .entry)) (now (written .entry)) k s ⌝ }
+    requires { ⌜ PlacesWithin k (now order) (length (now writes))
+        × WriteLists (now writes) (now targets) (now written)
+        × (s < length (now kept)) ⌝ }
+    ensures { λ r. ⌜ r ≡ valuesBelow (now (order .entry)) (now (writes .entry)) (now (targets .entry)) (now (written .entry)) (now (kept .entry)) k s ⌝ }
 {
     match previous_write(s, k, order, writes, targets, written) {
         Written::Value(v) => v,
-        Written::Nothing => start_value(s as usize),
+        Written::Nothing => kept[s as usize],
     }
 }
 
@@ -46,13 +48,14 @@ pub fn value_of(
     writes: &[u16],
     targets: &[u16],
     written: &[i32],
+    kept: &[i32],
     before: &mut [i32; 1024],
     after: &mut [i32; 1024],
     known: &mut [u8; 1024],
 ) -> i32
     requires { ⌜ (s < 1024)
-        × Lookable k (now order) (now writes) (now targets) (now written) (now known) (now before) (now after) ⌝ }
-    ensures { λ r. ⌜ (let env = valuesBelow (now (order .entry)) (now (writes .entry)) (now (targets .entry)) (now (written .entry)) k in
+        × Lookable k (now order) (now writes) (now targets) (now written) (now kept) (now known) (now before) (now after) ⌝ }
+    ensures { λ r. ⌜ (let env = valuesBelow (now (order .entry)) (now (writes .entry)) (now (targets .entry)) (now (written .entry)) (now (kept .entry)) k in
         (r ≡ env s)
         × IsKnown (now (known .exit)) s
         × Looked env (now (known .entry)) (now (known .exit)) (now (before .exit)) (now (after .exit))) ⌝ }
@@ -61,7 +64,7 @@ pub fn value_of(
     if known[x] != 0 {
         return after[x];
     }
-    let v = value_below(s, k, order, writes, targets, written);
+    let v = value_below(s, k, order, writes, targets, written, kept);
     before[x] = v;
     after[x] = v;
     known[x] = 1;
@@ -77,14 +80,15 @@ pub fn seen_hold(
     writes: &[u16],
     targets: &[u16],
     written: &[i32],
+    kept: &[i32],
     before: &mut [i32; 1024],
     after: &mut [i32; 1024],
     known: &mut [u8; 1024],
 ) -> bool
     requires { ⌜ (length (now sources) ≡ length (now seen))
         × OfSettings (now sources)
-        × Lookable k (now order) (now writes) (now targets) (now written) (now known) (now before) (now after) ⌝ }
-    ensures { λ r. ⌜ (let env = valuesBelow (now (order .entry)) (now (writes .entry)) (now (targets .entry)) (now (written .entry)) k in
+        × Lookable k (now order) (now writes) (now targets) (now written) (now kept) (now known) (now before) (now after) ⌝ }
+    ensures { λ r. ⌜ (let env = valuesBelow (now (order .entry)) (now (writes .entry)) (now (targets .entry)) (now (written .entry)) (now (kept .entry)) k in
         (r ≡ allHold (entries (length (now (sources .entry))) (now (sources .entry)) (now (seen .entry))) env)
         × Looked env (now (known .entry)) (now (known .exit)) (now (before .exit)) (now (after .exit))) ⌝ }
 {
@@ -97,6 +101,7 @@ pub fn seen_hold(
             writes,
             targets,
             written,
+            kept,
             before,
             after,
             known,
@@ -117,12 +122,13 @@ fn wanted_value(
     writes: &[u16],
     targets: &[u16],
     written: &[i32],
+    kept: &[i32],
     before: &mut [i32; 1024],
     after: &mut [i32; 1024],
     known: &mut [u8; 1024],
 ) -> i32
-    requires { ⌜ Lookable k (now order) (now writes) (now targets) (now written) (now known) (now before) (now after) ⌝ }
-    ensures { λ r. ⌜ (let env = valuesBelow (now (order .entry)) (now (writes .entry)) (now (targets .entry)) (now (written .entry)) k in
+    requires { ⌜ Lookable k (now order) (now writes) (now targets) (now written) (now kept) (now known) (now before) (now after) ⌝ }
+    ensures { λ r. ⌜ (let env = valuesBelow (now (order .entry)) (now (writes .entry)) (now (targets .entry)) (now (written .entry)) (now (kept .entry)) k in
         (r ≡ onSettings env s)
         × Looked env (now (known .entry)) (now (known .exit)) (now (before .exit)) (now (after .exit))) ⌝ }
 {
@@ -134,6 +140,7 @@ fn wanted_value(
             writes,
             targets,
             written,
+            kept,
             before,
             after,
             known,
@@ -151,6 +158,7 @@ pub fn run_at(
     writes: &[u16],
     targets: &[u16],
     written: &[i32],
+    kept: &[i32],
     before: &mut [i32; 1024],
     after: &mut [i32; 1024],
     known: &mut [u8; 1024],
@@ -162,8 +170,8 @@ pub fn run_at(
     requires { ⌜ (length (now program) ≤ 256)
         × (wellFormed (now program) ≡ true)
         × Sized (lists (now «new_sources») (now «new_seen») (now «new_targets») (now «new_written»))
-        × Lookable k (now order) (now writes) (now targets) (now written) (now known) (now before) (now after) ⌝ }
-    ensures { λ r. ⌜ (let env = valuesBelow (now (order .entry)) (now (writes .entry)) (now (targets .entry)) (now (written .entry)) k in
+        × Lookable k (now order) (now writes) (now targets) (now written) (now kept) (now known) (now before) (now after) ⌝ }
+    ensures { λ r. ⌜ (let env = valuesBelow (now (order .entry)) (now (writes .entry)) (now (targets .entry)) (now (written .entry)) (now (kept .entry)) k in
         Ran r
         (lists (now («new_sources» .exit)) (now («new_seen» .exit)) (now («new_targets» .exit)) (now («new_written» .exit)))
         (run env (code version (now (program .entry))))
@@ -181,6 +189,7 @@ pub fn run_at(
             writes,
             targets,
             written,
+            kept,
             before,
             after,
             known,
@@ -202,13 +211,14 @@ pub fn know_list(
     writes: &[u16],
     targets: &[u16],
     written: &[i32],
+    kept: &[i32],
     before: &mut [i32; 1024],
     after: &mut [i32; 1024],
     known: &mut [u8; 1024],
 )
     requires { ⌜ OfSettings (now settings)
-        × Lookable k (now order) (now writes) (now targets) (now written) (now known) (now before) (now after) ⌝ }
-    ensures { λ _. ⌜ (let env = valuesBelow (now (order .entry)) (now (writes .entry)) (now (targets .entry)) (now (written .entry)) k in
+        × Lookable k (now order) (now writes) (now targets) (now written) (now kept) (now known) (now before) (now after) ⌝ }
+    ensures { λ _. ⌜ (let env = valuesBelow (now (order .entry)) (now (writes .entry)) (now (targets .entry)) (now (written .entry)) (now (kept .entry)) k in
         AllKnown (now (known .exit)) (now (settings .entry))
         × Looked env (now (known .entry)) (now (known .exit)) (now (before .exit)) (now (after .exit))) ⌝ }
 {
@@ -221,6 +231,7 @@ pub fn know_list(
             writes,
             targets,
             written,
+            kept,
             before,
             after,
             known,

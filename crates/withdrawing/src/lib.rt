@@ -26,18 +26,22 @@ pub fn withdraw_item(
     order: &[u16],
     status: &mut [u16],
     withdrawn: &mut [u16],
+    cutoff: &[u64],
     timestamp: u64,
 ) -> Answer
-    requires { ⌜ PartFormed (λ T. withLent T (now held) (now timestamps) (now order) (now status) (now withdrawn)) ⌝ }
+    requires { ⌜ PartFormed (λ T. withLent T (now held) (now timestamps) (now order) (now status) (now withdrawn) (now cutoff)) ⌝ }
     ensures { λ r. ⌜
         ItemAnswered
-        (λ T. withLent T (now (held .entry)) (now (timestamps .entry)) (now (order .entry)) (now (status .entry)) (now (withdrawn .entry)))
-        (λ T. withLent T (now (held .entry)) (now (timestamps .entry)) (now (order .entry)) (now (status .exit)) (now (withdrawn .exit)))
+        (λ T. withLent T (now (held .entry)) (now (timestamps .entry)) (now (order .entry)) (now (status .entry)) (now (withdrawn .entry)) (now (cutoff .entry)))
+        (λ T. withLent T (now (held .entry)) (now (timestamps .entry)) (now (order .entry)) (now (status .exit)) (now (withdrawn .exit)) (now (cutoff .entry)))
         (withdrawing timestamp) r
         ⌝ }
 {
     if !is_timestamp(timestamp) {
         return Answer::Refused(4);
+    }
+    if timestamp < cutoff[0] {
+        return Answer::Refused(14);
     }
     let count = held_count(held);
     let found = position(timestamp, count, order, timestamps);

@@ -2,7 +2,7 @@
 //!
 //! | answer | of |
 //! |---|---|
-//! | `done` | `set_up`, `take_in`, `withdraw`, `load` |
+//! | `done` | `set_up`, `take_in`, `withdraw`, `cutoff`, `load` |
 //! | `held` | `take_in`: the same change is already held |
 //! | `idle`, `ran TS`, `stood TS`, `cleared TS`, `faulted TS PLACE` | `turn`: PLACE is that of the instruction that broke off, counted from 0 |
 //! | `done by console {"P": T, ..}` | `drain`: the totals that are not 0, by rising place. P is 4 × the console of a change, the lowest 8 bits of its timestamp, + 0 ran, 1 stood, 2 cleared, 3 faulted; T is the number of such turns |
@@ -11,7 +11,7 @@
 //! | `done answers [a, b, ..]` | `take_in_package`: for each entry 0 done, 255 already held, else the refusal |
 //! | `length N HEX` | `package_out`: HEX is the N bytes written, as pairs of lower-case hexadecimal digits |
 //! | `done [v, v, ..]` | `plain_run`, `start_values`: the 1,024 settings |
-//! | one line of JSON | `tables`: an object of fifteen lists |
+//! | one line of JSON | `tables`: an object of seventeen lists |
 //! | `refused R` | all but `start_values`, `tables` and `load` |
 
 use crate::json;
@@ -78,6 +78,7 @@ impl Runner {
                 let mut totals = zeros(totals.unwrap_or(TOTALS))?;
                 calls::drain(n, tables, &mut totals).map(|()| by_console(&totals))
             }
+            Call::Cutoff { timestamp } => calls::cutoff(n, tables, timestamp).map(done),
             Call::CurrentValue { setting } => calls::current_value(n, tables, setting).map(value),
             Call::ValueAsOf { timestamp, setting } => {
                 calls::value_as_of(n, tables, timestamp, setting).map(value)

@@ -1,4 +1,4 @@
-//! The tables as one line of JSON, and back: an object of fifteen lists of whole numbers.
+//! The tables as one line of JSON, and back: an object of seventeen lists of whole numbers.
 
 use crate::script::Quoted;
 use std::fmt;
@@ -9,7 +9,7 @@ use tolbezun::Tables;
 macro_rules! tables {
     ($($table:ident)*) => {
         /// The keys, in the order in which they are written. Any order is read.
-        pub const KEYS: [&str; 15] = [$(stringify!($table)),*];
+        pub const KEYS: [&str; 17] = [$(stringify!($table)),*];
 
         /// The tables as one line.
         pub fn write(tables: &Tables) -> String {
@@ -34,7 +34,7 @@ macro_rules! tables {
 
 tables! {
     held timestamps order status withdrawn length programs read_count write_count read_settings
-    seen_values write_settings written_values view version
+    seen_values write_settings written_values view version cutoff kept
 }
 
 /// Why a text is not tables.
@@ -49,7 +49,7 @@ pub enum Error {
         /// What should stand there.
         expected: &'static str,
     },
-    /// A key is none of the fifteen.
+    /// A key is none of the seventeen.
     Unknown(String),
     /// A key comes again.
     Twice(&'static str),

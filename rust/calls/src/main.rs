@@ -27,6 +27,7 @@ take_in TS HEX [VERSION]    done, held
 withdraw TS                 done
 turn                        idle, ran TS, stood TS, cleared TS, faulted TS PLACE
 drain [lenL]                done by console {"P": T, ..}, the totals that are not 0
+cutoff TS                   done; the changes stamped below TS are dropped
 current S                   value V
 value_as_of TS S            value V
 standing TS                 standing STATUS FLAG

@@ -11,6 +11,7 @@
 //! | `withdraw TS` | withdraw |
 //! | `turn` | turn |
 //! | `drain [lenL]` | drain |
+//! | `cutoff TS` | cutoff: the changes stamped below this timestamp are dropped |
 //! | `current S` | current value of a setting |
 //! | `value_as_of TS S` | value of a setting as of a timestamp |
 //! | `standing TS` | standing of a timestamp |
@@ -47,6 +48,9 @@ pub enum Call {
     /// `totals` is the length of the slice of totals to lend, where the line gives one.
     Drain {
         totals: Option<usize>,
+    },
+    Cutoff {
+        timestamp: u64,
     },
     CurrentValue {
         setting: usize,
@@ -160,6 +164,9 @@ pub fn read(line: &[u8]) -> Result<Option<Call>, Error> {
         "turn" => Call::Turn,
         "drain" => Call::Drain {
             totals: arguments.lent()?,
+        },
+        "cutoff" => Call::Cutoff {
+            timestamp: arguments.timestamp()?,
         },
         "current" => Call::CurrentValue {
             setting: arguments.setting()?,

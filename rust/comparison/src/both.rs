@@ -5,6 +5,7 @@ use crate::packages_out::Size;
 use crate::proved::calls as proved;
 use outside::calls::{self, Refusal, Standing};
 use outside::checker::{self, Turn, TOTALS};
+use outside::cutoff;
 use outside::intake::{self, Taken};
 use outside::package::{self, ANSWERS};
 use outside::program::SETTINGS;
@@ -59,6 +60,8 @@ impl Both {
     pub fn just_set_up(n: usize) -> Self {
         let mut tables = Tables::new(n);
         tables.view.fill(-1);
+        tables.cutoff.fill(INFINITY);
+        tables.kept.fill(-1);
         let mut both = Self::new(n, tables);
         assert_eq!(both.set_up(), Ok(()), "set up of capacity {n}");
         both
@@ -102,6 +105,16 @@ impl Both {
             &format_args!("withdrawing {timestamp}"),
             |n, tables| proved::withdraw(n, tables, timestamp),
             |n, tables| intake::withdraw(n, tables, timestamp),
+        )
+    }
+
+    /// Drops every change stamped below a timestamp.
+    #[track_caller]
+    pub fn cutoff(&mut self, timestamp: u64) -> Result<(), u8> {
+        self.call(
+            &format_args!("a cutoff at {timestamp}"),
+            |n, tables| proved::cutoff(n, tables, timestamp),
+            |n, tables| cutoff::cutoff(n, tables, timestamp),
         )
     }
 
@@ -217,6 +230,7 @@ impl Both {
                 assert_eq!(taken, Err(refusal), "{self:?}");
             }
             assert_eq!(self.withdraw(timestamp), Err(refusal), "{self:?}");
+            assert_eq!(self.cutoff(timestamp), Err(refusal), "{self:?}");
         }
         for package in [&[0, 0][..], &[0, 0, 0]] {
             let mut answers = packages::answers(random, ANSWERS);
@@ -284,7 +298,7 @@ impl Both {
     }
 }
 
-/// The tables without programs, lists and view.
+/// The tables without programs, lists, view and kept values.
 impl Debug for Both {
     fn fmt(&self, f: &mut fmt::Formatter<'_>) -> fmt::Result {
         f.debug_struct("Both")
@@ -298,6 +312,7 @@ impl Debug for Both {
             .field("versions", &self.outside.versions)
             .field("reads", &self.outside.reads)
             .field("writes", &self.outside.writes)
+            .field("cutoff", &self.outside.cutoff)
             .finish_non_exhaustive()
     }
 }

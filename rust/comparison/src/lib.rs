@@ -2,8 +2,8 @@
 //!
 //! The tests run random and chosen programs through both interpreters, make the calls of both on
 //! random and chosen tables and in random lists, check demand 3 after each drain of such a list,
-//! fill cabinets from the packages of others, search for previous writers, and run the program
-//! `cabinet`. Random tests are made with a fixed seed and with a new one ([`seeds`]). The program
+//! fill cabinets from the packages of others, hold those that drop changes beside those that drop
+//! none, search for previous writers, and run the program `cabinet`. Random tests are made with a fixed seed and with a new one ([`seeds`]). The program
 //! `bench` times the calls as the history grows, the search for the previous writer, single turns,
 //! drains beside plain runs, the test of the tables' form and the interpreters:
 //!
@@ -15,6 +15,7 @@
 #![warn(missing_docs)]
 
 pub mod both;
+pub mod cutoffs;
 pub mod generate;
 pub mod own_writes;
 pub mod packages_out;

@@ -3,7 +3,7 @@
 use crate::own_writes::{self, OwnWrite};
 use outside::checker::{Turn, Turned, CONSOLES, KINDS};
 use outside::program::{self, Access, Fault, Version, SETTINGS};
-use outside::start::{settings_at_start, start_value};
+use outside::start::start_value;
 use outside::tables::{Status, Tables, INFINITY};
 use std::collections::{BTreeMap, BTreeSet};
 
@@ -71,6 +71,14 @@ pub enum TurnEvent {
     /// change, or the change does not change the setting.
     WrongViewOfLaterWriter,
     WrongViewOfUnchanged,
+    /// A run sees a kept value that is not the start value, and a change stands that saw one.
+    KeptSeen,
+    KeptHolds,
+    /// A write is added, or removed, that is equal to such a value, or to the start value in its place.
+    KeptEqual,
+    KeptUnlikeStart,
+    /// The view has such a value, since a write is gone.
+    KeptOnRemoval,
 }
 
 /// Something that comes of several turns of a drain.
@@ -105,6 +113,15 @@ pub fn events(before: &Tables, after: &Tables, turn: Turn) -> Vec<TurnEvent> {
     let possible = at_change(before, after, place, turn.turned).into_iter();
     events.extend(possible.filter_map(|(happened, event)| happened.then_some(event)));
     events.extend(own_writes(before, after, place, turn.turned));
+    if after
+        .read_list(place)
+        .any(|read| is_kept(before, turn.timestamp, read.setting))
+    {
+        events.push(match turn.turned {
+            Turned::Stood => TurnEvent::KeptHolds,
+            _ => TurnEvent::KeptSeen,
+        });
+    }
     for touched in touched(before, after, turn) {
         touched.events(&mut events, before, after);
     }
@@ -173,8 +190,9 @@ struct Touched<'a> {
     setting: u16,
     /// What the change had written, and what it writes.
     written: [Option<i32>; 2],
-    /// The value as of its timestamp.
+    /// The value as of its timestamp, and whether that is a kept one and not the start value.
     previous: i32,
+    kept: bool,
     /// The places of later changes by rising timestamp, up to and including the next writer, and
     /// beyond it.
     within: &'a [u16],
@@ -205,6 +223,7 @@ fn touched<'a>(before: &'a Tables, after: &Tables, turn: Turn) -> Vec<Touched<'a
             setting,
             written: written.each_ref().map(|list| list.get(&setting).copied()),
             previous: previous_value(before, turn.timestamp, setting),
+            kept: is_kept(before, turn.timestamp, setting),
             within,
             beyond,
             next_writer: writer.map(|index| usize::from(later[index])),
@@ -234,6 +253,14 @@ impl Touched<'_> {
             ([Some(_), Some(_)], true) => TurnEvent::Rewritten,
             ([Some(_), Some(_)], false) => TurnEvent::RewrittenEqual,
         });
+        if let ([None, Some(value)] | [Some(value), None], true) = (self.written, self.kept) {
+            let start = start_value(self.setting.into());
+            if !changed {
+                events.push(TurnEvent::KeptEqual);
+            } else if value == start {
+                events.push(TurnEvent::KeptUnlikeStart);
+            }
+        }
         let last = previous_value(after, INFINITY, self.setting);
         let wrong_view = after.view[usize::from(self.setting)] != last;
         if !changed {
@@ -279,6 +306,9 @@ impl Touched<'_> {
         });
         if wrong_view && self.next_writer.is_some() {
             events.push(TurnEvent::WrongViewOfLaterWriter);
+        }
+        if self.kept && self.written[1].is_none() && self.next_writer.is_none() {
+            events.push(TurnEvent::KeptOnRemoval);
         }
     }
 }
@@ -350,7 +380,7 @@ impl Drain {
     /// What the drain, which is at its end, left as it was.
     pub fn left(&self, after: &Tables) -> Vec<DrainEvent> {
         let mut events = Vec::new();
-        let mut values = settings_at_start();
+        let mut values = after.kept_settings();
         for &place in &after.order[..after.held_count()] {
             let place = usize::from(place);
             let mut reads = after.read_list(place);
@@ -400,7 +430,13 @@ pub fn counted(totals: &[u16]) -> Vec<DrainEvent> {
 }
 
 /// The value of a setting as of a timestamp.
-fn previous_value(tables: &Tables, timestamp: u64, setting: u16) -> i32 {
+pub fn previous_value(tables: &Tables, timestamp: u64, setting: u16) -> i32 {
+    let written = previous_write(tables, timestamp, setting);
+    written.unwrap_or(tables.kept[usize::from(setting)])
+}
+
+/// What the highest change stamped below a timestamp wrote to a setting.
+fn previous_write(tables: &Tables, timestamp: u64, setting: u16) -> Option<i32> {
     let below = (0..tables.held_count()).filter(|&place| tables.timestamps[place] < timestamp);
     let written = |place: usize| {
         let mut writes = tables.write_list(place);
@@ -408,7 +444,14 @@ fn previous_value(tables: &Tables, timestamp: u64, setting: u16) -> i32 {
         Some((tables.timestamps[place], write.value))
     };
     let highest = below.filter_map(written).max();
-    highest.map_or_else(|| start_value(setting.into()), |(_, value)| value)
+    highest.map(|(_, value)| value)
+}
+
+/// Whether the value of a setting as of a timestamp is the kept one, and not the start value.
+fn is_kept(tables: &Tables, timestamp: u64, setting: u16) -> bool {
+    let number = usize::from(setting);
+    tables.kept[number] != start_value(number)
+        && previous_write(tables, timestamp, setting).is_none()
 }
 
 /// The fault of the run that left this read list.

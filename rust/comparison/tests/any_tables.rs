@@ -2,6 +2,7 @@
 //! calls need not reach.
 
 use comparison::both::Both;
+use comparison::cutoffs::{self, CutoffEvent};
 use comparison::generate::scripts::{Shape, Source};
 use comparison::generate::tables as random_tables;
 use comparison::generate::{self, packages, Random};
@@ -13,7 +14,7 @@ use comparison::turns::{self, DrainEvent, TurnEvent};
 use outside::checker::{Turned, CONSOLES, KINDS, TOTALS};
 use outside::intake::Taken;
 use outside::package::{lay_out, ANSWERS};
-use outside::program::{op, Fault, Instruction, Version, MAX_INSTRUCTIONS};
+use outside::program::{op, Access, Fault, Instruction, Version, MAX_INSTRUCTIONS};
 use outside::tables::{
     in_form, Status, Tables, INFINITY, LIST_ENTRIES, MAX_CAPACITY, PROGRAM_BYTES,
 };
@@ -43,6 +44,12 @@ enum Event {
     WithdrawRefused(u8),
     Package,
     PackageRefused(u8),
+    Cutoff(CutoffEvent),
+    /// A cutoff drops changes, and as many are taken in after it as there is room for: at the cutoff
+    /// first.
+    Refilled,
+    /// The kept values have a setting whose value as of a later time is another.
+    OtherValueLater,
 }
 
 /// What a drain that is not made of single turns may well miss.
@@ -155,6 +162,11 @@ fn turns_and_drains_leave_the_same_tables() {
         Event::Turn(TurnEvent::ViewWritten),
         Event::Turn(TurnEvent::ViewOnRemoval),
         Event::Turn(TurnEvent::ViewOfLaterWriter),
+        Event::Turn(TurnEvent::KeptSeen),
+        Event::Turn(TurnEvent::KeptHolds),
+        Event::Turn(TurnEvent::KeptEqual),
+        Event::Turn(TurnEvent::KeptUnlikeStart),
+        Event::Turn(TurnEvent::KeptOnRemoval),
         Event::Drain(DrainEvent::Consoles(1)),
         Event::Drain(DrainEvent::Consoles(2)),
         Event::Drain(DrainEvent::Consoles(4)),
@@ -177,7 +189,6 @@ fn turns_and_drains_leave_the_same_tables() {
     for event in [
         TurnEvent::Faulted(Version::Zero, Fault::NoSuchSetting),
         TurnEvent::Faulted(Version::One, Fault::NoSuchSetting),
-        TurnEvent::FaultedAfterOwnWrite,
         TurnEvent::Answered(highest),
         TurnEvent::RanAfterFault,
         TurnEvent::FaultedAfterFault,
@@ -186,6 +197,8 @@ fn turns_and_drains_leave_the_same_tables() {
     ] {
         reached.assert_at_least(TABLES / 300, Event::Turn(event));
     }
+    let faulted = Event::Turn(TurnEvent::FaultedAfterOwnWrite);
+    reached.assert_at_least(TABLES / 600, faulted);
     for own_write in OwnWrite::ALL {
         for event in [
             TurnEvent::OwnWriteFirst,
@@ -381,10 +394,12 @@ fn changes_and_packages_taken_in_and_withdrawals_leave_the_same_tables() {
     let reached = count_reached(TABLES, |random, _, reached| {
         let (source, mut both) = interfering_tables(random);
         let held = both.tables().timestamps[..both.tables().held_count()].to_vec();
-        let timestamp = match random.below(8) {
+        let timestamp = match random.below(10) {
             0 => random.pick(&[0, INFINITY]),
-            1..6 if !held.is_empty() => random.pick(&held),
-            _ => random.bits(),
+            1..5 if !held.is_empty() => random.pick(&held),
+            5 => both.tables().cutoff().saturating_sub(1),
+            6 => both.tables().cutoff(),
+            _ => random.bits().max(both.tables().cutoff()),
         };
         match random.below(3) {
             0 => {
@@ -415,7 +430,8 @@ fn changes_and_packages_taken_in_and_withdrawals_leave_the_same_tables() {
                 Err(refusal) => Event::WithdrawRefused(refusal),
             }),
             _ => {
-                let entries = packages::entries(random, &held);
+                let cutoff = both.tables().cutoff();
+                let entries = packages::entries(random, &held, cutoff);
                 let mut package = lay_out(&entries);
                 if random.below(4) == 0 {
                     package.pop();
@@ -439,10 +455,233 @@ fn changes_and_packages_taken_in_and_withdrawals_leave_the_same_tables() {
     ] {
         reached.assert_at_least(TABLES / 50, event);
     }
-    for refusal in [4, 6, 13, 7, 8, 9] {
+    for refusal in [4, 14, 6, 13, 7, 8, 9] {
         reached.assert_at_least(TABLES / 100, Event::TakeInRefused(refusal));
     }
-    for refusal in [4, 10, 11] {
+    for refusal in [4, 14, 10, 11] {
         reached.assert_at_least(TABLES / 100, Event::WithdrawRefused(refusal));
+    }
+}
+
+/// How many tables have cutoffs, and how many larger ones.
+const CUT: usize = 6_000;
+const LARGER_CUT: usize = 24;
+
+/// How many of the settings that lists name are looked at after a cutoff.
+const SETTINGS_LOOKED_AT: usize = 16;
+
+/// A timestamp for a cutoff of these tables: most often a held one, or one next to it.
+fn new_cutoff(random: &mut Random, tables: &Tables) -> u64 {
+    let held = &tables.timestamps[..tables.held_count()];
+    let cutoff = tables.cutoff();
+    match random.below(16) {
+        0 => random.pick(&[0, 1, INFINITY - 1, INFINITY]),
+        1 => cutoff,
+        2 => cutoff.saturating_sub(1 + random.below(3) as u64),
+        3 => random.bits(),
+        _ if held.is_empty() => random.bits(),
+        _ => random.pick(held) + random.below(2) as u64,
+    }
+}
+
+/// All that a place of tables has.
+#[derive(Debug, PartialEq)]
+struct Held {
+    timestamp: u64,
+    status: u16,
+    withdrawn: u16,
+    version: u16,
+    program: Vec<u8>,
+    reads: Vec<Access>,
+    writes: Vec<Access>,
+}
+
+/// The held places of tables, in order of arrival.
+fn held(tables: &Tables) -> Vec<Held> {
+    let held = |place| Held {
+        timestamp: tables.timestamps[place],
+        status: tables.status[place],
+        withdrawn: tables.withdrawn[place],
+        version: tables.versions[place],
+        program: tables.program(place).to_vec(),
+        reads: tables.read_list(place).collect(),
+        writes: tables.write_list(place).collect(),
+    };
+    (0..tables.held_count()).map(held).collect()
+}
+
+/// Makes a cutoff, and where it is done checks what document 02 says of it on these tables: the changes
+/// that are not below it close up in order of arrival, the kept values are the values as of it, those as
+/// of later times are what they were, and the view stays. Returns whether it is done.
+fn cut(both: &mut Both, timestamp: u64, reached: &mut Reached<Event>) -> bool {
+    let old = both.tables().clone();
+    let made = both.cutoff(timestamp);
+    for event in cutoffs::events(&old, timestamp, made) {
+        reached.count(Event::Cutoff(event));
+    }
+    if made.is_err() {
+        return false;
+    }
+    let new = both.tables();
+    assert!(in_form(both.capacity(), new));
+    assert_eq!(new.cutoff(), timestamp);
+    assert!(new.view == old.view, "the view stays");
+    let mut stay = held(&old);
+    stay.retain(|held| held.timestamp >= timestamp);
+    assert!(held(new) == stay, "they close up in order of arrival");
+
+    let of_lists = held(&old).into_iter();
+    let mut settings: Vec<u16> = of_lists
+        .flat_map(|held| [held.reads, held.writes].concat())
+        .map(|entry| entry.setting)
+        .collect();
+    settings.sort_unstable();
+    settings.dedup();
+    let mut other = false;
+    for &setting in settings.iter().take(SETTINGS_LOOKED_AT) {
+        let kept = new.kept[usize::from(setting)];
+        assert_eq!(kept, turns::previous_value(&old, timestamp, setting));
+        for later in [timestamp + 1, INFINITY] {
+            let value = turns::previous_value(new, later, setting);
+            assert_eq!(value, turns::previous_value(&old, later, setting));
+            other |= value != kept;
+        }
+    }
+    reached.count_if(other, Event::OtherValueLater);
+    both.ask_all(timestamp, settings.first().copied().unwrap_or(0).into());
+    true
+}
+
+/// Takes in changes until the tables are full, from the cutoff on, and one more, which is refused.
+fn refill(random: &mut Random, source: &Source, both: &mut Both, reached: &mut Reached<Event>) {
+    let cutoff = both.tables().cutoff();
+    let stamps = (cutoff..INFINITY).take(2 * both.capacity());
+    let held = both.tables().timestamps.clone();
+    let missing = both.capacity() - both.tables().held_count();
+    let new: Vec<u64> = stamps.filter(|stamp| !held.contains(stamp)).collect();
+    if new.len() <= missing {
+        return;
+    }
+    for (index, &timestamp) in new[..=missing].iter().enumerate() {
+        let change = source.stamped(random, timestamp);
+        let taken = both.take_in(timestamp, change.version.number(), &change.program);
+        match index < missing {
+            true => assert_eq!(taken, Ok(Taken::Done)),
+            false => assert_eq!(taken, Err(9)),
+        }
+    }
+    reached.count(Event::Refilled);
+}
+
+#[test]
+fn cutoffs_leave_the_same_tables() {
+    let reached = count_reached(CUT, |random, index, reached| {
+        let n = 2 + random.below(15);
+        let held = random_tables::held_count(random, n);
+        let source = Source::new(random, n);
+        let shape = Shape {
+            // Most often nothing waits below many a timestamp.
+            waiting: random.pick(&[2, 8, 40]),
+            settled: random.below(2) == 0,
+            ..Shape::SMALL
+        };
+        let tables = match index % 4 {
+            0 => random_tables::in_form(random, n, held),
+            _ => source.tables_of(random, n, held, &shape),
+        };
+        let mut both = Both::new(n, tables);
+        let timestamp = new_cutoff(random, both.tables());
+        if !cut(&mut both, timestamp, reached) {
+            return;
+        }
+        match random.below(4) {
+            // Again, and a later one.
+            0 => {
+                let before = both.tables().clone();
+                assert!(cut(&mut both, timestamp, reached));
+                assert!(*both.tables() == before, "the same alters nothing");
+                let timestamp = new_cutoff(random, both.tables());
+                cut(&mut both, timestamp, reached);
+            }
+            1 => refill(random, &source, &mut both, reached),
+            _ => {}
+        }
+        drain(random, both, &mut Reached::default());
+    });
+    for event in [
+        CutoffEvent::Done,
+        CutoffEvent::Refused(15),
+        CutoffEvent::DropsSome,
+        CutoffEvent::DropsNone,
+        CutoffEvent::StaysAt,
+        CutoffEvent::GoesBelow,
+        CutoffEvent::StaysBefore,
+        CutoffEvent::ClosesUp,
+        CutoffEvent::Kept,
+        CutoffEvent::KeptUnlikeView,
+        CutoffEvent::KeptBelowWrite,
+        CutoffEvent::KeepsKept,
+    ] {
+        reached.assert_at_least(CUT / 10, Event::Cutoff(event));
+    }
+    for event in [
+        CutoffEvent::Refused(4),
+        CutoffEvent::Refused(14),
+        CutoffEvent::Unsettled(Status::New),
+        CutoffEvent::Unsettled(Status::Invalid),
+        CutoffEvent::UnsettledWithdrawn(Status::New),
+        CutoffEvent::UnsettledWithdrawn(Status::Invalid),
+        CutoffEvent::UnsettledHighest,
+        CutoffEvent::Again,
+        CutoffEvent::OfNone,
+        CutoffEvent::DropsAll,
+        CutoffEvent::DropsAllOfFull,
+        CutoffEvent::OtherArrival,
+        CutoffEvent::DroppedArrival,
+        CutoffEvent::Waiting(Status::New),
+        CutoffEvent::Waiting(Status::Invalid),
+        CutoffEvent::Withdrawn,
+        CutoffEvent::WithdrawnWriter,
+        CutoffEvent::NoWrites,
+        CutoffEvent::KeptAfterKept,
+        CutoffEvent::KeptOfSeveral,
+        CutoffEvent::KeptEarlierArrival,
+    ] {
+        reached.assert_at_least(CUT / 100, Event::Cutoff(event));
+    }
+    for event in [Event::Refilled, Event::OtherValueLater] {
+        reached.assert_at_least(CUT / 40, event);
+    }
+}
+
+#[test]
+fn cutoffs_of_larger_tables_leave_the_same_tables() {
+    let reached = count_reached(LARGER_CUT, |random, index, reached| {
+        let n = match index {
+            0 => MAX_CAPACITY,
+            _ => random.pick(&[64, 300, 1_000]),
+        };
+        let held = n - random.below(3);
+        let mut tables = random_tables::in_form_with_full_lists(random, n, held);
+        for flag in &mut tables.withdrawn[..n / 2] {
+            *flag = random.pick(&[0, 1]);
+        }
+        let mut both = Both::new(n, tables);
+        // By rising rank, so that none is refused.
+        let ranks = [n / 8, n / 2, n / 2 + 1, n - 3];
+        for rank in ranks {
+            let tables = both.tables();
+            let rank = rank.min(tables.held_count() - 1);
+            let timestamp = tables.timestamps[usize::from(tables.order[rank])];
+            assert!(cut(&mut both, timestamp, reached));
+        }
+    });
+    for event in [
+        CutoffEvent::DropsSome,
+        CutoffEvent::KeptAfterKept,
+        CutoffEvent::KeptEarlierArrival,
+        CutoffEvent::WithdrawnWriter,
+    ] {
+        reached.assert_at_least(LARGER_CUT, Event::Cutoff(event));
     }
 }

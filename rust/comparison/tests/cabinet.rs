@@ -109,7 +109,7 @@ fn random_packages_are_listed() {
         let [mut turns, mut faulted, mut cleared] = [0; 3];
         let [mut settings, mut untagged, mut full] = [0; 3];
         for index in 0..share.of(PACKAGES) {
-            let mut entries = packages::entries(random, &[]);
+            let mut entries = packages::entries(random, &[], 0);
             if index % 2 == 0 {
                 // Programs that read and write the same settings.
                 let source = Source::new(random, CAPACITY);
@@ -240,7 +240,7 @@ fn damaged_packages_are_listed() {
     let [refused, kept] = with_seeds(|random, share| {
         let [mut refused, mut kept] = [0; 2];
         for index in 0..share.of(PACKAGES) {
-            let mut package = lay_out(&packages::entries(random, &[]));
+            let mut package = lay_out(&packages::entries(random, &[], 0));
             if index % 2 == 0 {
                 random.pick(&Breach::ALL).make(random, &mut package);
             } else {

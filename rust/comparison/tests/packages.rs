@@ -63,7 +63,8 @@ fn random_packages_have_the_same_answers() {
         let mut both = Both::just_set_up(n);
         for _ in 0..3 {
             let held = both.tables().timestamps[..both.tables().held_count()].to_vec();
-            let entries = packages::entries(random, &held);
+            let cutoff = both.tables().cutoff();
+            let entries = packages::entries(random, &held, cutoff);
             let package = lay_out(&entries);
             let answers = take_in(random, &mut both, &package).expect("the layout is right");
             reached.count(match entries.len() {
@@ -102,8 +103,14 @@ fn random_packages_have_the_same_answers() {
                     }
                 }
             }
-            if random.below(3) == 0 {
+            if random.below(2) == 0 {
                 assert!(both.drain(&mut [0; TOTALS]).is_ok());
+                let stamps = &both.tables().timestamps[..both.tables().held_count()];
+                if !stamps.is_empty() {
+                    // One that is no infinity.
+                    let timestamp = random.pick(stamps).saturating_add(1).min(INFINITY - 1);
+                    assert_eq!(both.cutoff(timestamp), Ok(()));
+                }
             }
         }
     });
@@ -119,11 +126,11 @@ fn random_packages_have_the_same_answers() {
         reached.assert_at_least(PACKAGES / 20, event);
     }
     for version in Version::ALL {
-        for answer in [DONE, ALREADY_HELD, 4, 7, 8, 9] {
+        for answer in [DONE, ALREADY_HELD, 4, 14, 7, 8, 9] {
             reached.assert_at_least(PACKAGES / 20, Event::ChangeAnswered(version, answer));
         }
     }
-    for answer in [DONE, 4, 10, 11] {
+    for answer in [DONE, 4, 14, 10, 11] {
         reached.assert_at_least(PACKAGES / 20, Event::WithdrawalAnswered(answer));
     }
 }
@@ -131,7 +138,7 @@ fn random_packages_have_the_same_answers() {
 /// A random package with this breach.
 fn broken(random: &mut Random, breach: Breach) -> Vec<u8> {
     loop {
-        let mut package = lay_out(&packages::entries(random, &[]));
+        let mut package = lay_out(&packages::entries(random, &[], 0));
         if breach.make(random, &mut package).is_some() {
             return package;
         }

@@ -10,36 +10,47 @@ use outside::checker::TOTALS;
 use outside::intake::Taken;
 use outside::package::{entries, lay_out, Entry, ALREADY_HELD, ANSWERS, MAX_BYTES, MAX_ENTRIES};
 use outside::program::{self, op, Version, INSTRUCTION_BYTES, MAX_INSTRUCTIONS, SETTINGS};
-use outside::tables::{check_lengths, in_form, Tables, INFINITY, PROGRAM_BYTES};
+use outside::tables::{check_lengths, in_form, Status, Tables, INFINITY, PROGRAM_BYTES};
 
 /// How many inputs are made for each pair of refusals.
 const INPUTS: usize = 40;
 
 /// The pairs of refusals of one call that cannot meet, or not without an earlier refusal.
 ///
-/// 8 and 11 need a timestamp that is held, 9 and 10 one that is not. 4 needs one that no tables in
-/// form hold: where it meets 8 or 11, so does 2, which comes first.
+/// 8 and 11 need a timestamp that is held, 9 and 10 one that is not. 4 and 14 need one that no tables
+/// in form hold: where they meet 8 or 11, so does 2, which comes first. 15 needs a held one below the
+/// new cutoff, which is below the cutoff where that meets 14.
 ///
 /// All others meet: also 6 and 7, since one is about the length of a program and the other about its
-/// instructions, and 13 and 8, since a version above 1 is another than that of any held program. For
-/// the same reason as above 4 always meets 10.
-const NEVER_MET: [(u8, u8); 4] = [(4, 8), (4, 11), (8, 9), (10, 11)];
+/// instructions, and 13 and 8, since a version above 1 is another than that of any held program, and 4
+/// and 14, since 0 is below every other cutoff. For the same reason as above 4 and 14 always meet 10.
+const NEVER_MET: [(u8, u8); 7] = [
+    (4, 8),
+    (4, 11),
+    (14, 8),
+    (14, 11),
+    (14, 15),
+    (8, 9),
+    (10, 11),
+];
 
 /// Breaches of form that change no held count, timestamp, flag, version and program, so that what is
-/// held, and how, is as plain as in tables in form.
+/// held, and how, is as plain as in tables in form. The first change no status either.
 const BREACHES: [Breach; 5] = [
-    Breach::StatusAbove2,
     Breach::CountAbove32(List::Reads),
     Breach::CountAbove32(List::Writes),
+    Breach::StatusAbove2,
     Breach::NewWith(List::Reads),
     Breach::NewWith(List::Writes),
 ];
+const OF_COUNTS: usize = 2;
 
 /// The calls but set up, which tests lengths alone.
 #[derive(Clone, Copy, Debug, PartialEq, Eq)]
 enum Call {
     TakeIn,
     Withdraw,
+    Cutoff,
     TakeInPackage,
     Turn,
     Drain,
@@ -51,9 +62,10 @@ enum Call {
 }
 
 impl Call {
-    const ALL: [Self; 10] = [
+    const ALL: [Self; 11] = [
         Self::TakeIn,
         Self::Withdraw,
+        Self::Cutoff,
         Self::TakeInPackage,
         Self::Turn,
         Self::Drain,
@@ -67,13 +79,14 @@ impl Call {
     /// What the call is turned down for, in checking order.
     fn refusals(self) -> &'static [u8] {
         match self {
-            Self::TakeIn => &[1, 2, 4, 6, 13, 7, 8, 9],
-            Self::Withdraw => &[1, 2, 4, 10, 11],
+            Self::TakeIn => &[1, 2, 4, 14, 6, 13, 7, 8, 9],
+            Self::Withdraw => &[1, 2, 4, 14, 10, 11],
+            Self::Cutoff => &[1, 2, 4, 14, 15],
             Self::TakeInPackage => &[1, 2, 3],
             Self::Turn | Self::Drain | Self::PlainRun => &[1, 2],
             Self::CurrentValue => &[1, 2, 5],
-            Self::ValueAsOf => &[1, 2, 4, 5],
-            Self::Standing => &[1, 2, 4, 10],
+            Self::ValueAsOf => &[1, 2, 4, 14, 5],
+            Self::Standing => &[1, 2, 4, 14, 10],
             Self::PackageOut => &[1, 2, 12],
         }
     }
@@ -113,7 +126,7 @@ struct Input {
 }
 
 impl Input {
-    /// A random input that meets these refusals of the call, and no others but 10 with 4.
+    /// A random input that meets these refusals of the call, and no others but 10 with 4 and with 14.
     fn meeting(random: &mut Random, call: Call, refusals: &[u8]) -> Self {
         let met = |refusal| refusals.contains(&refusal);
         let n = 3 + random.below(6);
@@ -121,18 +134,47 @@ impl Input {
             true => n,
             false => 2 + random.below(n - 2),
         };
-        let mut tables = random_tables::in_form(random, n, held);
+        let mut tables = holding(random, n, held);
         let (withdrawn, standing) = (0, 1);
         tables.withdrawn[withdrawn] = 1;
         tables.withdrawn[standing] = 0;
+        // A timestamp that is not 0 is below it where it is at least 2.
+        let lowest = tables.timestamps[usize::from(tables.order[0])];
+        tables.cutoff[0] = match met(14) {
+            true => 1 + up_to(random, lowest - 1),
+            false if random.below(3) == 0 => 0,
+            false => up_to(random, lowest),
+        };
         let timestamp = match call {
+            _ if met(4) && met(14) => 0,
             Call::ValueAsOf if met(4) => 0,
+            Call::Cutoff if met(15) => {
+                let highest = usize::from(tables.order[held - 1]);
+                tables.status[usize::from(tables.order[0])] = Status::Invalid.number();
+                match met(4) {
+                    true => INFINITY,
+                    false => random.pick(&[lowest + 1, tables.timestamps[highest], INFINITY - 1]),
+                }
+            }
             _ if met(4) => random.pick(&[0, INFINITY]),
+            _ if met(14) => up_to(random, tables.cutoff() - 1),
+            Call::Cutoff => {
+                let end = usize::from(tables.order[random.below(held)]);
+                let end = tables.timestamps[end];
+                settle_below(&mut tables, end);
+                random.pick(&[tables.cutoff().max(1), end])
+            }
             _ if met(11) => tables.timestamps[withdrawn],
             Call::TakeIn if !met(8) => not_held(random, &tables),
             _ if met(10) => not_held(random, &tables),
             _ => tables.timestamps[standing],
         };
+        if timestamp == 0 && !met(14) {
+            tables.cutoff[0] = 0;
+        }
+        if timestamp == INFINITY && !met(15) {
+            settle_below(&mut tables, timestamp);
+        }
         let mut version = generate::version(random);
         let mut program = not_held_program(random, &tables);
         // Some have the held program with the other version. An instruction is needed to meet 7.
@@ -145,7 +187,10 @@ impl Input {
             n,
             version: version.number(),
             program,
-            package: lay_out(&packages::entries(random, &tables.timestamps[..held])),
+            package: {
+                let held = &tables.timestamps[..held];
+                lay_out(&packages::entries(random, held, tables.cutoff()))
+            },
             room: Size::of(&tables).bytes + random.pick(&[0, 0, 1, MAX_BYTES]),
             tables,
             timestamp,
@@ -173,7 +218,11 @@ impl Input {
                 Table::View.resize(&mut self.tables, length);
             }
             (2, _) => {
-                let made = random.pick(&BREACHES).make(random, &mut self.tables);
+                let breaches = match self.call {
+                    Call::Cutoff => &BREACHES[..OF_COUNTS],
+                    _ => &BREACHES,
+                };
+                let made = random.pick(breaches).make(random, &mut self.tables);
                 made.expect("changes are held");
             }
             (3, _) => loop {
@@ -218,6 +267,7 @@ impl Input {
                 Call::ValueAsOf => self.timestamp == 0,
                 _ => self.timestamp == 0 || self.timestamp == INFINITY,
             },
+            14 => self.timestamp < self.tables.cutoff(),
             5 => self.setting >= SETTINGS,
             6 => {
                 let length = self.program.len();
@@ -236,6 +286,11 @@ impl Input {
             9 => place.is_none() && self.tables.held_count() == self.n,
             10 => place.is_none(),
             11 => place.is_some_and(|place| self.tables.withdrawn[place] == 1),
+            15 => (0..self.tables.held_count()).any(|place| {
+                let waiting = [Status::New, Status::Invalid].map(Status::number);
+                waiting.contains(&self.tables.status[place])
+                    && self.tables.timestamps[place] < self.timestamp
+            }),
             12 => {
                 let Size { entries, bytes } = Size::of(&self.tables);
                 entries > MAX_ENTRIES || bytes > MAX_BYTES || bytes > self.room
@@ -253,6 +308,7 @@ impl Input {
         match self.call {
             Call::TakeIn => both.take_in(timestamp, self.version, &self.program).err(),
             Call::Withdraw => both.withdraw(timestamp).err(),
+            Call::Cutoff => both.cutoff(timestamp).err(),
             Call::TakeInPackage => {
                 let mut answers = packages::answers(random, self.answers);
                 both.take_in_package(&self.package, &mut answers).err()
@@ -287,11 +343,44 @@ impl Input {
     }
 }
 
-/// A timestamp that these tables do not hold.
+/// A timestamp from 1 to `most`: these two more often.
+fn up_to(random: &mut Random, most: u64) -> u64 {
+    match random.below(4) {
+        0 => 1,
+        1 => most,
+        _ => 1 + random.below(most as usize) as u64,
+    }
+}
+
+/// Tables in form that hold so many changes, two or more, none stamped 1 or 2^64 − 2.
+fn holding(random: &mut Random, n: usize, held: usize) -> Tables {
+    loop {
+        let tables = random_tables::in_form(random, n, held);
+        let [lowest, highest] = [0, held - 1].map(|rank| usize::from(tables.order[rank]));
+        if tables.timestamps[lowest] > 1 && tables.timestamps[highest] < INFINITY - 1 {
+            return tables;
+        }
+    }
+}
+
+/// Lets all changes stamped below a timestamp be Valid.
+fn settle_below(tables: &mut Tables, timestamp: u64) {
+    for place in 0..tables.held_count() {
+        if tables.timestamps[place] < timestamp {
+            tables.status[place] = Status::Valid.number();
+        }
+    }
+}
+
+/// A timestamp that these tables do not hold, and that is not below their cutoff.
 fn not_held(random: &mut Random, tables: &Tables) -> u64 {
     loop {
-        let timestamp = random.bits().clamp(1, INFINITY - 1);
-        if tables.place_of(timestamp).is_none() {
+        let cutoff = tables.cutoff().max(1);
+        let timestamp = match random.below(2) {
+            0 => random.bits().clamp(cutoff, INFINITY - 1),
+            _ => cutoff + random.below(16) as u64,
+        };
+        if timestamp < INFINITY && tables.place_of(timestamp).is_none() {
             return timestamp;
         }
     }
@@ -318,7 +407,8 @@ fn the_first_of_two_refusals_is_the_answer() {
                 for _ in 0..share.of(INPUTS) {
                     let input = Input::meeting(random, call, &refusals);
                     let met = input.met();
-                    let with_10 = refusals.contains(&4) && met == [&refusals[..], &[10]].concat();
+                    let not_held = refusals.contains(&4) || refusals.contains(&14);
+                    let with_10 = not_held && met == [&refusals[..], &[10]].concat();
                     assert!(met == refusals || with_10, "{met:?}, not {refusals:?}");
                     let first = met.first().copied();
                     assert_eq!(input.refusal(random), first, "{input:?} meets {met:?}");
@@ -359,6 +449,85 @@ fn a_timestamp_that_is_none_is_held_by_no_tables_in_form() {
             }
         }
     });
+}
+
+/// The pairs of which one is 14, on tables that hold a timestamp below the cutoff: a change taken in, one
+/// withdrawn, and a lower cutoff with a change below it whose turn is to come.
+#[test]
+fn a_timestamp_below_the_cutoff_is_held_by_no_tables_in_form() {
+    with_seeds(|random, share| {
+        for (call, refusal) in [(Call::TakeIn, 8), (Call::Withdraw, 11), (Call::Cutoff, 15)] {
+            for _ in 0..share.of(INPUTS) {
+                let mut input = Input::meeting(random, call, &[]);
+                let held = input.tables.held_count();
+                input.tables.withdrawn[..held].fill(1);
+                let [lowest, next] = [0, 1].map(|rank| usize::from(input.tables.order[rank]));
+                input.tables.status[lowest] = Status::Invalid.number();
+                let [lowest, next] = [lowest, next].map(|place| input.tables.timestamps[place]);
+                input.tables.cutoff[0] = next + 1;
+                input.timestamp = match call {
+                    Call::Cutoff => random.pick(&[lowest + 1, next]),
+                    _ => lowest,
+                };
+                assert_eq!(input.met(), [2, 14, refusal]);
+                assert_eq!(input.refusal(random), Some(2));
+            }
+        }
+    });
+}
+
+/// Every timestamp about the cutoff in every call that has one, by itself and as the entry of a package:
+/// those below it are refused, 14, 0 is 4, and the cutoff itself is not refused for it.
+#[test]
+fn timestamps_about_the_cutoff_are_refused_below_it_alone() {
+    let [below, not_below] = with_seeds(|random, share| {
+        let [mut below, mut not_below] = [0; 2];
+        for _ in 0..share.of(INPUTS) {
+            let n = 3 + random.below(6);
+            let mut tables = holding(random, n, n - 1);
+            let lowest = tables.timestamps[usize::from(tables.order[0])];
+            tables.cutoff[0] = random.pick(&[2, lowest]);
+            settle_below(&mut tables, INFINITY);
+            let cutoff = tables.cutoff();
+            for timestamp in [0, 1, cutoff - 1, cutoff, cutoff + 1] {
+                let expected = match timestamp {
+                    0 => Some(4),
+                    _ => (timestamp < cutoff).then_some(14),
+                };
+                let [mut taking, mut withdrawing, mut cutting] =
+                    [(); 3].map(|()| Both::new(n, tables.clone()));
+                let change = Entry::Change {
+                    timestamp,
+                    version: Version::One,
+                    program: Vec::new(),
+                };
+                let mut answer_of = |entry| {
+                    let mut answers = packages::answers(random, ANSWERS);
+                    let mut both = Both::new(n, tables.clone());
+                    let taken = both.take_in_package(&lay_out(&[entry]), &mut answers);
+                    assert_eq!(taken, Ok(()));
+                    answers[0]
+                };
+                let answers = [
+                    taking.take_in(timestamp, 1, &[]).err(),
+                    withdrawing.withdraw(timestamp).err(),
+                    cutting.cutoff(timestamp).err(),
+                    taking.ask(Query::Standing(timestamp)).err(),
+                    taking.ask(Query::ValueAsOf(timestamp, 0)).err(),
+                    Some(answer_of(change)),
+                    Some(answer_of(Entry::Withdrawal { timestamp })),
+                ];
+                match expected {
+                    Some(_) => assert_eq!(answers, [expected; 7]),
+                    None => assert!(!answers.contains(&Some(14)), "{answers:?}"),
+                }
+                below += usize::from(expected == Some(14));
+                not_below += usize::from(expected.is_none());
+            }
+        }
+        [below, not_below]
+    });
+    assert_eq!([below, not_below], [2 * INPUTS; 2]);
 }
 
 /// Every held change once more: with its version it is already held, with the other one 8, and with

@@ -13,7 +13,7 @@ use outside::calls::Refusal;
 use outside::checker::TOTALS;
 use outside::package::{ANSWERS, MAX_BYTES};
 use outside::program::{self, Version, SETTINGS};
-use outside::start::{settings_at_start, start_value};
+use outside::start::start_value;
 use outside::tables::{in_form, Status, Tables, INFINITY, LIST_ENTRIES, MAX_CAPACITY};
 use std::collections::BTreeSet;
 
@@ -38,12 +38,16 @@ fn held_count(tables: &Tables) -> usize {
     usize::from(held).min(tables.timestamps.len())
 }
 
-/// A timestamp to ask for: most often a held one or one next to it.
+/// A timestamp to ask for: most often a held one or one next to it, or the cutoff or one next to that.
 fn timestamp(random: &mut Random, both: &Both) -> u64 {
     let held = held_count(both.tables());
-    match random.below(8) {
+    match random.below(9) {
         0 => random.pick(&[0, 1, INFINITY - 1, INFINITY]),
         1 => random.bits(),
+        8 => {
+            let cutoff = both.tables().cutoff.first().copied().unwrap_or(0);
+            cutoff.wrapping_add(random.below(3) as u64).wrapping_sub(1)
+        }
         _ if held == 0 => random.bits(),
         choice => {
             let timestamp = both.tables().timestamps[random.below(held)];
@@ -95,10 +99,13 @@ enum Event {
     Broken(Breach),
     CurrentValue,
     CurrentValueRefused(u8),
-    /// Nothing writes the setting below the timestamp, which starts at this value, or the highest
-    /// write counts.
+    /// Nothing writes the setting below the timestamp, and its kept value is its start value, which is
+    /// this one, or another; or the highest write counts.
     AsOfStart(i32),
+    AsOfKept,
     AsOfWritten,
+    /// The timestamp is the cutoff, which is not 0.
+    AsOfCutoff,
     AsOfInfinity,
     /// Several changes stamped below the timestamp write the setting.
     AsOfSeveral,
@@ -121,6 +128,8 @@ enum Event {
     PlainRunFaults,
     PlainRunReadsBack,
     PlainRunOverwrites,
+    /// A change reads a kept value that is not the start value.
+    PlainRunReadsKept,
     /// A change of version 1 does so and does not fault.
     PlainRunOwnWrite(OwnWrite),
     PlainRunRefused(u8),
@@ -172,12 +181,17 @@ fn count_value_as_of(
     let stamp = |place: usize| tables.timestamps[place];
     let below = || writers.iter().copied().filter(|&p| stamp(p) < timestamp);
     reached.count_if(timestamp == INFINITY, Event::AsOfInfinity);
+    reached.count_if(timestamp == tables.cutoff(), Event::AsOfCutoff);
     let own = writers.iter().any(|&place| stamp(place) == timestamp);
     reached.count_if(own, Event::AsOfOwnWrite);
     let later = writers.iter().any(|&place| stamp(place) > timestamp);
     reached.count_if(later, Event::AsOfLaterWrite);
     let Some(highest) = below().max_by_key(|&place| stamp(place)) else {
-        reached.count(Event::AsOfStart(start_value(setting)));
+        let start = start_value(setting);
+        reached.count(match tables.kept[setting] == start {
+            true => Event::AsOfStart(start),
+            false => Event::AsOfKept,
+        });
         return;
     };
     reached.count(Event::AsOfWritten);
@@ -192,9 +206,10 @@ fn count_plain_run(reached: &mut Reached<Event>, tables: &Tables) {
     let held = tables.held_count();
     reached.count(Event::PlainRun);
     reached.count_if(held == 0, Event::PlainRunOfNone);
-    let mut settings = settings_at_start();
+    let mut settings = tables.kept_settings();
     let mut written = [false; SETTINGS];
     let [mut passes_over, mut faults, mut reads_back, mut overwrites] = [false; 4];
+    let mut reads_kept = false;
     let mut own_writes = BTreeSet::new();
     for place in tables.order[..held].iter().copied().map(usize::from) {
         if tables.withdrawn[place] == 1 {
@@ -207,6 +222,10 @@ fn count_plain_run(reached: &mut Reached<Event>, tables: &Tables) {
         if outcome.fault().is_none() {
             own_writes.extend(own_writes::of_run(version, program, &settings));
         }
+        reads_kept |= outcome.reads().iter().any(|read| {
+            let setting = usize::from(read.setting);
+            !written[setting] && read.value != start_value(setting)
+        });
         reads_back |= outcome
             .reads()
             .iter()
@@ -222,6 +241,7 @@ fn count_plain_run(reached: &mut Reached<Event>, tables: &Tables) {
     reached.count_if(faults, Event::PlainRunFaults);
     reached.count_if(reads_back, Event::PlainRunReadsBack);
     reached.count_if(overwrites, Event::PlainRunOverwrites);
+    reached.count_if(reads_kept, Event::PlainRunReadsKept);
     for own_write in own_writes {
         reached.count(Event::PlainRunOwnWrite(own_write));
     }
@@ -269,6 +289,8 @@ fn random_tables_have_the_same_answers() {
         Event::ChangedNotInForm,
         Event::AsOfStart(0),
         Event::AsOfStart(1),
+        Event::AsOfKept,
+        Event::AsOfCutoff,
         Event::AsOfWritten,
         Event::AsOfInfinity,
         Event::AsOfSeveral,
@@ -282,6 +304,7 @@ fn random_tables_have_the_same_answers() {
         Event::PlainRunFaults,
         Event::PlainRunReadsBack,
         Event::PlainRunOverwrites,
+        Event::PlainRunReadsKept,
     ] {
         reached.assert_at_least(TABLES / 50, event);
     }
@@ -295,8 +318,8 @@ fn random_tables_have_the_same_answers() {
             Event::CurrentValueRefused as fn(u8) -> Event,
             &[1, 2, 5][..],
         ),
-        (Event::ValueAsOfRefused, &[1, 2, 4, 5]),
-        (Event::StandingRefused, &[1, 2, 4, 10]),
+        (Event::ValueAsOfRefused, &[1, 2, 4, 14, 5]),
+        (Event::StandingRefused, &[1, 2, 4, 14, 10]),
         (
             |refusal| Event::PackageOut(PackageEvent::Refused(refusal)),
             &[1, 2, 12],
@@ -375,10 +398,14 @@ fn every_breach_of_form_is_refused() {
 
 #[test]
 fn every_breach_of_form_is_refused_at_capacity_4096() {
-    let reached = count_reached(2, |random, index, reached| {
-        let held = [300, MAX_CAPACITY][index];
+    let reached = count_reached(3, |random, index, reached| {
+        let held = [300, MAX_CAPACITY, 0][index];
         let in_form = random_tables::in_form(random, MAX_CAPACITY, held);
-        for breach in Breach::ALL {
+        let breaches: &[Breach] = match held {
+            0 => &[Breach::CutoffInfinity],
+            _ => &Breach::ALL,
+        };
+        for &breach in breaches {
             let mut tables = in_form.clone();
             if breach.make(random, &mut tables).is_some() {
                 assert_not_in_form(random, Both::new(MAX_CAPACITY, tables));
@@ -387,9 +414,10 @@ fn every_breach_of_form_is_refused_at_capacity_4096() {
         }
     });
     for breach in Breach::ALL {
-        // Full tables have no unused slots and no room for a held count too high.
+        // Full tables have no unused slots and no room for a held count too high, and only tables that
+        // hold nothing have a cutoff too high alone.
         let least = match breach {
-            Breach::HeldTooMany | Breach::Unused(_) => 1,
+            Breach::HeldTooMany | Breach::Unused(_) | Breach::CutoffInfinity => 1,
             _ => 2,
         };
         reached.assert_at_least(least, Event::Broken(breach));
@@ -427,6 +455,40 @@ fn every_place_with_a_wrong_version_is_refused() {
     assert_eq!(refused, 8 * 6 * 6);
 }
 
+/// Every cutoff next to a held timestamp and at the ends: those at most the lowest timestamp are in form,
+/// whatever is kept, and no others.
+#[test]
+fn every_cutoff_above_a_held_timestamp_is_refused() {
+    let [refused, in_form] = with_seeds(|random, share| {
+        let [mut refused, mut in_form] = [0; 2];
+        for index in 0..share.of(20) {
+            let (n, held) = (4, index % 5);
+            let tables = random_tables::in_form(random, n, held);
+            let stamps = tables.timestamps[..held].to_vec();
+            let next = stamps
+                .iter()
+                .flat_map(|&stamp| [stamp - 1, stamp, stamp + 1]);
+            let ends = [0, 1, 1 << 32, 1 << 63, INFINITY - 1, INFINITY];
+            for cutoff in next.chain(ends) {
+                let mut tables = tables.clone();
+                tables.cutoff[0] = cutoff;
+                tables.kept.fill_with(|| random.bits() as i32);
+                let both = Both::new(n, tables);
+                if cutoff == INFINITY || stamps.iter().any(|&stamp| stamp < cutoff) {
+                    assert_not_in_form(random, both);
+                    refused += 1;
+                } else {
+                    assert!(both.ask(Query::CurrentValue(0)).is_ok());
+                    in_form += 1;
+                }
+            }
+        }
+        [refused, in_form]
+    });
+    println!("{refused} cutoffs refused, {in_form} in form");
+    assert!(refused > 80 && in_form > 40, "{refused}, {in_form}");
+}
+
 #[test]
 fn tables_of_capacity_4096_have_the_same_answers() {
     with_seeds(|random, _| {
@@ -443,7 +505,10 @@ fn tables_of_capacity_4096_have_the_same_answers() {
                 false => random_tables::in_form(random, MAX_CAPACITY, held),
             };
             let both = Both::new(MAX_CAPACITY, tables);
-            let last = both.tables().timestamps[held.saturating_sub(1)].max(1);
+            let last = match held {
+                0 => INFINITY - 1,
+                _ => both.tables().timestamps[held - 1],
+            };
             let target = usize::from(both.tables().targets[LIST_ENTRIES * (held / 2)]);
             for query in [
                 Query::CurrentValue(SETTINGS - 1),
@@ -463,7 +528,8 @@ fn tables_of_capacity_4096_have_the_same_answers() {
     });
 }
 
-/// The timestamps and the settings at the ends, all held timestamps, and those next to them.
+/// The timestamps and the settings at the ends, all held timestamps, the cutoff, and those next to
+/// them.
 #[test]
 fn arguments_at_the_bounds_have_the_same_answers() {
     let asked = with_seeds(|random, share| {
@@ -472,7 +538,9 @@ fn arguments_at_the_bounds_have_the_same_answers() {
             let n = 1 + random.below(6);
             let tables = random_tables::in_form(random, n, index % (n + 1));
             let both = Both::new(n, tables);
+            let cutoff = both.tables().cutoff();
             let mut timestamps = vec![0, 1, 2, 1 << 32, 1 << 63, INFINITY - 1, INFINITY];
+            timestamps.extend([cutoff.saturating_sub(1), cutoff, cutoff + 1]);
             for &timestamp in &both.tables().timestamps[..held_count(both.tables())] {
                 timestamps.extend([timestamp - 1, timestamp, timestamp + 1]);
             }
@@ -486,7 +554,11 @@ fn arguments_at_the_bounds_have_the_same_answers() {
                 let answer = both.ask(Query::CurrentValue(setting));
                 assert_eq!(answer.err(), refusal);
                 for &timestamp in &timestamps {
-                    let refusal = if timestamp == 0 { Some(4) } else { refusal };
+                    let refusal = match timestamp {
+                        0 => Some(4),
+                        _ if timestamp < cutoff => Some(14),
+                        _ => refusal,
+                    };
                     let answer = both.ask(Query::ValueAsOf(timestamp, setting));
                     assert_eq!(answer.err(), refusal);
                     asked += 1;
@@ -495,6 +567,7 @@ fn arguments_at_the_bounds_have_the_same_answers() {
             for &timestamp in &timestamps {
                 let refusal = match timestamp {
                     0 | INFINITY => Some(4),
+                    _ if timestamp < cutoff => Some(14),
                     _ if both.tables().timestamps.contains(&timestamp) => None,
                     _ => Some(10),
                 };

@@ -1,7 +1,7 @@
 //! Demand 3: the book, the fresh run, and what is claimed of the tables and of the turns after a
 //! drain.
 //!
-//! Document 01, "Demand 3 spelled out", and document 02, R-2, R-5 and R-6. Nothing here uses the
+//! Document 01, "Demand 3 spelled out", and document 02, R-2, R-5, R-6 and R-7. Nothing here uses the
 //! Checker: it looks at calls as they were made and answered, by whatever implementation, and at the
 //! tables that they left.
 
@@ -11,7 +11,7 @@ use crate::program::{self, Access, Version, SETTINGS};
 use crate::start::settings_at_start;
 use crate::tables::Tables;
 use std::collections::{BTreeMap, BTreeSet};
-use std::iter;
+use std::{iter, mem};
 
 /// A call that may alter the tables, with its arguments besides N and the tables, and its answer.
 /// Where the answer is a number it is 0 for done, 255 for already held, else the refusal.
@@ -32,6 +32,11 @@ pub enum Call {
     TakeInPackage {
         package: Vec<u8>,
         answers: Vec<u8>,
+        answer: u8,
+    },
+    /// "Cutoffs too may stand in demand 3's mix" (document 02, R-7).
+    Cutoff {
+        timestamp: u64,
         answer: u8,
     },
     /// None where it is idle or refused.
@@ -80,6 +85,18 @@ pub enum Breach {
     Writes(u64),
     /// "each of the 1,024 entries of the view is that setting at the fresh run's end": a setting.
     View(usize),
+    /// The cutoff of the tables is not that of the last call cutoff answered done, or 0 where there
+    /// is none (document 02, R-7).
+    Cutoff,
+    /// "Demand 3's kept values are those that all changes dropped so far leave in one fresh run from
+    /// the start values, withdrawn ones passed over, and the tables hold exactly these." (document 02,
+    /// R-7): a setting.
+    Kept(usize),
+    /// The lists of a held timestamp are not those of a fresh run, from the start values, of all
+    /// changes that were ever held.
+    Lost(u64),
+    /// This setting of the view is not what that run leaves.
+    LostView(usize),
     /// "A drain fills a lent slice of 1,024 16-bit totals" (document 02, R-5): the lent slice has
     /// another length, and the drain is answered.
     Length,
@@ -101,14 +118,18 @@ pub enum Breach {
     FaultsShown(u64),
 }
 
-/// Checks demand 3, and that faults are shown, for a list of calls that begins on tables just set up,
-/// and the tables that it left, which must be in form.
+/// Checks demand 3, that faults are shown, and that dropping loses nothing, for a list of calls that
+/// begins on tables just set up, and the tables that it left, which must be in form.
 pub fn check(calls: &[Call], tables: &Tables) -> Result<(), Breach> {
     let Some((Call::Drain(Some((totals, turns))), earlier)) = calls.split_last() else {
         return Err(Breach::NotDrained);
     };
-    let fresh = Book::of(calls).fresh_run();
+    let book = Book::of(calls);
+    let kept = book.check_kept(tables)?;
+    // "Any other fresh run" begins "from the kept values" (document 02, R-7).
+    let fresh = fresh_run(kept, &book.held);
     fresh.check_tables(tables)?;
+    book.check_nothing_lost(tables)?;
     let totals = totals.as_slice().try_into().or(Err(Breach::Length))?;
     check_sums(totals, turns)?;
     check_totals(totals, turns)?;
@@ -117,9 +138,22 @@ pub fn check(calls: &[Call], tables: &Tables) -> Result<(), Breach> {
     check_faults_shown(calls, &fresh)
 }
 
+/// Checks the cutoff and the kept values alone, after any list of calls that begins on tables just set
+/// up: they do not wait for a drain.
+pub fn check_kept(calls: &[Call], tables: &Tables) -> Result<(), Breach> {
+    Book::of(calls).check_kept(tables).map(|_| ())
+}
+
 /// "The book is kept from the calls' arguments and answers alone and starts empty."
 #[derive(Default)]
-pub(crate) struct Book(BTreeMap<u64, Booked>);
+pub(crate) struct Book {
+    /// "Held changes are those in the book."
+    held: BTreeMap<u64, Booked>,
+    /// What cutoffs took out of it.
+    dropped: BTreeMap<u64, Booked>,
+    /// The last cutoff that was answered done, or 0.
+    cutoff: u64,
+}
 
 struct Booked {
     version: Version,
@@ -153,6 +187,10 @@ impl Book {
                     answers,
                     answer: DONE,
                 } => book.take_package(package, answers),
+                Call::Cutoff {
+                    timestamp,
+                    answer: DONE,
+                } => book.drop_below(*timestamp),
                 _ => {}
             }
         }
@@ -167,12 +205,12 @@ impl Book {
             program,
             withdrawn: false,
         };
-        self.0.insert(timestamp, booked);
+        self.held.insert(timestamp, booked);
     }
 
     /// "A withdrawal answered done marks that timestamp withdrawn."
     fn mark_withdrawn(&mut self, timestamp: u64) {
-        if let Some(booked) = self.0.get_mut(&timestamp) {
+        if let Some(booked) = self.held.get_mut(&timestamp) {
             booked.withdrawn = true;
         }
     }
@@ -193,48 +231,94 @@ impl Book {
         }
     }
 
+    /// "A cutoff answered done takes every change stamped below it out of the book too." (document 02,
+    /// R-7)
+    fn drop_below(&mut self, timestamp: u64) {
+        let remaining = self.held.split_off(&timestamp);
+        let below = mem::replace(&mut self.held, remaining);
+        self.dropped.extend(below);
+        self.cutoff = timestamp;
+    }
+
     /// "all held changes by rising timestamp, then the withdrawals by rising timestamp" (document
     /// 02, R-3).
     pub(crate) fn entries(&self) -> Vec<Entry> {
-        let changes = self.0.iter().map(|(&timestamp, booked)| Entry::Change {
+        let changes = self.held.iter().map(|(&timestamp, booked)| Entry::Change {
             timestamp,
             version: booked.version,
             program: booked.program.clone(),
         });
-        let withdrawn = self.0.iter().filter(|(_, booked)| booked.withdrawn);
+        let withdrawn = self.held.iter().filter(|(_, booked)| booked.withdrawn);
         let withdrawals = withdrawn.map(|(&timestamp, _)| Entry::Withdrawal { timestamp });
         changes.chain(withdrawals).collect()
     }
 
-    /// "The fresh run starts 1,024 settings of its own, each at its start value, and goes through
-    /// the book by rising timestamp."
-    fn fresh_run(&self) -> FreshRun {
-        let mut settings = settings_at_start();
-        let mut changes = BTreeMap::new();
-        for (&timestamp, booked) in &self.0 {
-            let mut fresh = Fresh {
-                before: settings,
-                reads: Vec::new(),
-                writes: Vec::new(),
-                answer: None,
-            };
-            // "A withdrawn change is passed over; its lists are empty. Any other is run by its
-            // instructions on those settings as they then stand." "The drained state is that of
-            // running each change by its own version." (document 02, R-6)
-            if !booked.withdrawn {
-                let outcome = program::run(booked.version, &booked.program, &settings);
-                fresh.reads = outcome.reads().to_vec();
-                fresh.writes = outcome.writes().to_vec();
-                fresh.answer = Some(Turned::by_run(&outcome));
-            }
-            // "Its writes are then carried into the settings."
-            for write in &fresh.writes {
-                settings[usize::from(write.setting)] = write.value;
-            }
-            changes.insert(timestamp, fresh);
+    /// Checks the cutoff and the kept values of the tables, and returns these.
+    fn check_kept(&self, tables: &Tables) -> Result<[i32; SETTINGS], Breach> {
+        if tables.cutoff() != self.cutoff {
+            return Err(Breach::Cutoff);
         }
-        FreshRun { changes, settings }
+        let kept = fresh_run(settings_at_start(), &self.dropped).settings;
+        match unlike(&tables.kept, &kept) {
+            Some(setting) => Err(Breach::Kept(setting)),
+            None => Ok(kept),
+        }
     }
+
+    /// Checks the tables, drained, beside a cabinet that has room for all and never drops a change:
+    /// they show what that has, the lists of what they still hold and the view.
+    fn check_nothing_lost(&self, tables: &Tables) -> Result<(), Breach> {
+        let all: BTreeMap<&u64, &Booked> = self.dropped.iter().chain(&self.held).collect();
+        let fresh = fresh_run(settings_at_start(), all);
+        for place in 0..tables.held_count() {
+            let timestamp = tables.timestamps[place];
+            let fresh = &fresh.changes[&timestamp];
+            if !fresh.has_reads(tables, place) || !fresh.has_writes(tables, place) {
+                return Err(Breach::Lost(timestamp));
+            }
+        }
+        match unlike(&tables.view, &fresh.settings) {
+            Some(setting) => Err(Breach::LostView(setting)),
+            None => Ok(()),
+        }
+    }
+}
+
+/// "The fresh run starts 1,024 settings of its own", each at the value given here, "and goes through
+/// the book by rising timestamp", as it is given here.
+fn fresh_run<'a>(
+    mut settings: [i32; SETTINGS],
+    book: impl IntoIterator<Item = (&'a u64, &'a Booked)>,
+) -> FreshRun {
+    let mut changes = BTreeMap::new();
+    for (&timestamp, booked) in book {
+        let mut fresh = Fresh {
+            before: settings,
+            reads: Vec::new(),
+            writes: Vec::new(),
+            answer: None,
+        };
+        // "A withdrawn change is passed over; its lists are empty. Any other is run by its
+        // instructions on those settings as they then stand." "The drained state is that of
+        // running each change by its own version." (document 02, R-6)
+        if !booked.withdrawn {
+            let outcome = program::run(booked.version, &booked.program, &settings);
+            fresh.reads = outcome.reads().to_vec();
+            fresh.writes = outcome.writes().to_vec();
+            fresh.answer = Some(Turned::by_run(&outcome));
+        }
+        // "Its writes are then carried into the settings."
+        for write in &fresh.writes {
+            settings[usize::from(write.setting)] = write.value;
+        }
+        changes.insert(timestamp, fresh);
+    }
+    FreshRun { changes, settings }
+}
+
+/// The first setting that has two values.
+fn unlike(values: &[i32], others: &[i32; SETTINGS]) -> Option<usize> {
+    (0..SETTINGS).find(|&setting| values[setting] != others[setting])
 }
 
 /// What the fresh run gives.
@@ -263,17 +347,29 @@ impl FreshRun {
         }
         for (place, timestamp) in held.iter().enumerate() {
             let fresh = &self.changes[timestamp];
-            if !tables.read_list(place).eq(fresh.reads.iter().copied()) {
+            if !fresh.has_reads(tables, place) {
                 return Err(Breach::Reads(*timestamp));
             }
-            if !tables.write_list(place).eq(fresh.writes.iter().copied()) {
+            if !fresh.has_writes(tables, place) {
                 return Err(Breach::Writes(*timestamp));
             }
         }
-        match (0..SETTINGS).find(|&setting| tables.view[setting] != self.settings[setting]) {
+        match unlike(&tables.view, &self.settings) {
             Some(setting) => Err(Breach::View(setting)),
             None => Ok(()),
         }
+    }
+}
+
+impl Fresh {
+    /// Whether its read list, with the values seen, is that at a place of the tables.
+    fn has_reads(&self, tables: &Tables, place: usize) -> bool {
+        tables.read_list(place).eq(self.reads.iter().copied())
+    }
+
+    /// Whether its write list is.
+    fn has_writes(&self, tables: &Tables, place: usize) -> bool {
+        tables.write_list(place).eq(self.writes.iter().copied())
     }
 }
 

@@ -1,11 +1,10 @@
 //! The Checker: the calls turn and drain.
 //!
 //! Figure 1 of source document 004, whose names and comments stand in the code, with what document
-//! 01, "A turn", and document 02, R-2, R-5 and R-6, add.
+//! 01, "A turn", and document 02, R-2, R-5, R-6 and R-7, add.
 
 use crate::calls::{check, refuse_unless, Refusal};
 use crate::program::{self, Access, Outcome, Version, SETTINGS};
-use crate::start::{settings_at_start, start_value};
 use crate::tables::{Status, Tables, INFINITY};
 use std::collections::{BTreeMap, BTreeSet};
 
@@ -127,10 +126,11 @@ impl Update {
     }
 }
 
-/// The updates, and the current database copy. "Because update timestamps are unique, we use the
-/// timestamp T of an update to also refer to the update itself" (source document 004).
+/// The updates, the kept values, and the current database copy. "Because update timestamps are unique,
+/// we use the timestamp T of an update to also refer to the update itself" (source document 004).
 struct History {
     updates: BTreeMap<u64, Update>,
+    kept: [i32; SETTINGS],
     current: Vec<i32>,
 }
 
@@ -150,6 +150,7 @@ impl History {
             updates: places
                 .map(|place| (tables.timestamps[place], update(place)))
                 .collect(),
+            kept: tables.kept_settings(),
             current: tables.view.clone(),
         }
     }
@@ -190,17 +191,17 @@ impl History {
     }
 
     /// Value-Upto(x,T): "value v in the writeset entry <Write, x, Previous-Writer(x,T), v>".
-    /// Without a previous writer it is the start value.
+    /// Without a previous writer it is the kept value (document 02, R-7).
     fn value_upto(&self, x: u16, t: u64) -> i32 {
         let writer = self.updates.get(&self.previous_writer(x, t));
         let written = writer.and_then(|update| update.written(x));
-        written.unwrap_or_else(|| start_value(x.into()))
+        written.unwrap_or(self.kept[usize::from(x)])
     }
 
     /// Value-Upto(x,T) of every x.
     fn values_upto(&self, t: u64) -> [i32; SETTINGS] {
         let mut previous_writers = [0; SETTINGS];
-        let mut values = settings_at_start();
+        let mut values = self.kept;
         for (&u, update) in self.updates.iter().filter(|(&u, _)| u < t) {
             for write in &update.writeset {
                 let x = usize::from(write.setting);

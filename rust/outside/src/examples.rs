@@ -3,6 +3,7 @@
 use crate::book::{self, turns_of_drain, Breach, Call, LoggedTurn};
 use crate::calls::Refusal;
 use crate::checker::{drain, turn, Turned, TOTALS};
+use crate::cutoff::cutoff;
 use crate::intake::{take_in, withdraw, Taken};
 use crate::package::{
     package_out, take_in_package, ALREADY_HELD, ANSWERS, DONE, ENTRY_BYTES, MAX_BYTES,
@@ -168,6 +169,22 @@ impl Script {
         answer
     }
 
+    /// Makes a cutoff, which must be answered done.
+    #[track_caller]
+    pub fn cutoff(&mut self, timestamp: u64) {
+        assert_eq!(self.try_cutoff(timestamp), DONE);
+    }
+
+    /// Makes a cutoff, checks cutoff and kept values, and returns the answer.
+    #[track_caller]
+    pub fn try_cutoff(&mut self, timestamp: u64) -> u8 {
+        let made = cutoff(self.n, &mut self.tables, timestamp);
+        let answer = made.map_or_else(Refusal::number, |()| DONE);
+        self.calls.push(Call::Cutoff { timestamp, answer });
+        assert_eq!(book::check_kept(&self.calls, &self.tables), Ok(()));
+        answer
+    }
+
     /// Takes in a package and returns the answer.
     pub fn take_in_package(&mut self, package: Vec<u8>) -> u8 {
         let mut answers = vec![0; ANSWERS];
@@ -219,6 +236,11 @@ impl Script {
     /// Checks demand 3.
     pub fn check(&self) -> Result<(), Breach> {
         book::check(&self.calls, &self.tables)
+    }
+
+    /// The kept values that differ from their start.
+    pub fn kept(&self) -> Vec<(usize, i32)> {
+        moved(&self.tables.kept)
     }
 
     /// The settings of the view that differ from their start.

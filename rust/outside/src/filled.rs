@@ -1,6 +1,6 @@
 //! A package that a cabinet writes, and another cabinet that is filled from it.
 //!
-//! Document 02, R-3, whose sentences are quoted here. Nothing here uses the calls: as [`book`]
+//! Document 02, R-3, whose sentences are quoted here, and R-7. Nothing here uses the calls: as [`book`]
 //! does, it looks at calls as they were made and answered, by whatever implementation, and at the
 //! tables that they left.
 //!
@@ -25,6 +25,9 @@ pub enum Breach {
     /// The entries are not "all held changes by rising timestamp, then the withdrawals by rising
     /// timestamp".
     Entries,
+    /// A cabinet has a cutoff. Nothing is claimed then: "filling an empty cabinet holds only where both
+    /// cabinets have cutoff 0" (document 02, R-7).
+    Cutoff,
     /// This entry, counted from 0, is not answered done.
     Answer(usize),
     /// The filled cabinet does not hold the neighbour's timestamps and no others.
@@ -64,6 +67,8 @@ pub fn check_package(calls: &[Call], room: usize, answer: Result<&[u8], u8>) -> 
 /// neighbour's drained state by timestamp." `answers` are those of the package's entries, in order;
 /// both tables are in form and drained.
 pub fn check_filled(answers: &[u8], filled: &Tables, neighbour: &Tables) -> Result<(), Breach> {
+    let cutoffs = [filled, neighbour].map(Tables::cutoff);
+    unless(cutoffs == [0, 0], Breach::Cutoff)?;
     if let Some(refused) = answers.iter().position(|&answer| answer != DONE) {
         return Err(Breach::Answer(refused));
     }
@@ -78,7 +83,7 @@ pub fn check_filled(answers: &[u8], filled: &Tables, neighbour: &Tables) -> Resu
 
 /// What tables hold of a change, wherever its place is.
 #[derive(PartialEq)]
-struct State {
+pub(crate) struct State {
     version: Version,
     program: Vec<u8>,
     withdrawn: bool,
@@ -89,7 +94,8 @@ struct State {
 }
 
 impl State {
-    fn by_timestamp(tables: &Tables) -> BTreeMap<u64, Self> {
+    /// All that tables in form hold.
+    pub(crate) fn by_timestamp(tables: &Tables) -> BTreeMap<u64, Self> {
         let state = |place| Self {
             version: tables.version(place),
             program: tables.program(place).to_vec(),

@@ -1,6 +1,6 @@
 //! The calls that take in a change and withdraw one.
 //!
-//! Document 01, "Calls" and "Turned down, in checking order"; document 02, R-6.
+//! Document 01, "Calls" and "Turned down, in checking order"; document 02, R-6 and R-7.
 
 use crate::calls::{check, check_timestamp, refuse_unless, Refusal};
 use crate::program::{self, INSTRUCTION_BYTES};
@@ -43,7 +43,7 @@ pub(crate) fn take_in_checked(
     version: u16,
     program: &[u8],
 ) -> Result<Taken, Refusal> {
-    check_timestamp(timestamp)?;
+    check_timestamp(tables, timestamp)?;
     let version = program::check(version, program).map_err(Refusal::Program)?;
     if let Some(place) = tables.place_of(timestamp) {
         let same = tables.version(place) == version && tables.program(place) == program;
@@ -68,7 +68,7 @@ pub(crate) fn take_in_checked(
 
 /// As [`withdraw`], on tables in form.
 pub(crate) fn withdraw_checked(tables: &mut Tables, timestamp: u64) -> Result<(), Refusal> {
-    check_timestamp(timestamp)?;
+    check_timestamp(tables, timestamp)?;
     let place = tables.place_of(timestamp).ok_or(Refusal::NotHeld)?;
     refuse_unless(tables.withdrawn[place] == 0, Refusal::Withdrawn)?;
 

@@ -12,6 +12,8 @@ pub mod book;
 pub mod cabinet;
 pub mod calls;
 pub mod checker;
+pub mod cutoff;
+pub mod dropped;
 pub mod filled;
 pub mod intake;
 pub mod package;

@@ -1,6 +1,7 @@
 //! The layout of a package, and the calls that take one in and write one.
 //!
-//! Document 01, "Calls", and refusal 3 of "Turned down, in checking order"; document 02, R-3 and R-6.
+//! Document 01, "Calls", and refusal 3 of "Turned down, in checking order"; document 02, R-3, R-6 and
+//! R-7.
 
 use crate::calls::{check, refuse_unless, Refusal};
 use crate::intake::{take_in_checked, withdraw_checked, Taken};
@@ -109,7 +110,8 @@ pub fn lay_out(entries: &[Entry]) -> Vec<u8> {
 }
 
 /// "Entries are carried out in order into a lent slice of 512 answer bytes: 0 done, 255 already
-/// held, else the refusal; later bytes keep their contents, and a refused entry stops nothing."
+/// held, else the refusal; later bytes keep their contents, and a refused entry stops nothing." An
+/// entry stamped below the cutoff is refused (document 02, R-7).
 pub fn take_in_package(
     n: usize,
     tables: &mut Tables,

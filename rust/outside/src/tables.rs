@@ -1,6 +1,7 @@
 //! The tables: their lengths and their form.
 //!
-//! Document 01, "Tables", and refusals 1 and 2 of "Turned down, in checking order"; document 02, R-6.
+//! Document 01, "Tables", and refusals 1 and 2 of "Turned down, in checking order"; document 02, R-6
+//! and R-7.
 
 use crate::program::{
     self, Access, SettingSet, Version, INSTRUCTION_BYTES, MAX_INSTRUCTIONS, SETTINGS,
@@ -50,8 +51,8 @@ impl Status {
     }
 }
 
-/// The fifteen tables, of any lengths and with any contents. "by place, in order of arrival" are
-/// all but the held count, the order and the view.
+/// The seventeen tables, of any lengths and with any contents. "by place, in order of arrival" are
+/// all but the held count, the order, the view, the cutoff and the kept values.
 #[derive(Clone, Debug, PartialEq, Eq)]
 pub struct Tables {
     /// "held count (1 entry)".
@@ -86,11 +87,16 @@ pub struct Tables {
     /// The version of each change (N), which "gets a lent table of its own, in document 01's widths
     /// unless another is told and in form only with the values named", 0 and 1 (document 02, R-6).
     pub versions: Vec<u16>,
+    /// "The tables gain the cutoff, 0 at set-up" (document 02, R-7): 1 entry. It is a timestamp, so it
+    /// has 64 bits.
+    pub cutoff: Vec<u64>,
+    /// "and 1,024 kept values, at set-up the start values." (document 02, R-7)
+    pub kept: Vec<i32>,
 }
 
 impl Tables {
     /// Tables of the lengths that belong to capacity `n`, as set up leaves them: "every table to 0,
-    /// the view to the start".
+    /// the view to the start", and the kept values to the start values (document 02, R-7).
     pub fn new(n: usize) -> Self {
         Self {
             held: vec![0; 1],
@@ -108,12 +114,25 @@ impl Tables {
             written: vec![0; LIST_ENTRIES * n],
             view: settings_at_start().to_vec(),
             versions: vec![0; n],
+            cutoff: vec![0; 1],
+            kept: settings_at_start().to_vec(),
         }
     }
 
     /// The held count of tables in form.
     pub fn held_count(&self) -> usize {
         usize::from(self.held[0])
+    }
+
+    /// The cutoff of tables in form.
+    pub fn cutoff(&self) -> u64 {
+        self.cutoff[0]
+    }
+
+    /// The kept values of tables in form.
+    pub fn kept_settings(&self) -> [i32; SETTINGS] {
+        let kept = self.kept.as_slice().try_into();
+        kept.expect("the tables are in form")
     }
 
     /// The place of a timestamp that tables in form hold.
@@ -153,6 +172,20 @@ impl Tables {
         replace_list(place, counts, settings, values, reads);
         let (counts, settings, values) = (&mut self.writes, &mut self.targets, &mut self.written);
         replace_list(place, counts, settings, values, writes);
+    }
+
+    /// Lets a place have what a place of other tables has. The order stays.
+    pub(crate) fn copy_place(&mut self, place: usize, other: &Self, from: usize) {
+        self.timestamps[place] = other.timestamps[from];
+        self.status[place] = other.status[from];
+        self.withdrawn[place] = other.withdrawn[from];
+        self.lengths[place] = other.lengths[from];
+        self.versions[place] = other.versions[from];
+        let program = &mut self.programs[PROGRAM_BYTES * place..][..PROGRAM_BYTES];
+        program.copy_from_slice(other.program_bytes(from));
+        let reads: Vec<Access> = other.read_list(from).collect();
+        let writes: Vec<Access> = other.write_list(from).collect();
+        self.replace_lists(place, &reads, &writes);
     }
 
     /// All bytes for the program at a place, used or not.
@@ -217,6 +250,8 @@ pub fn check_lengths(n: usize, tables: &Tables) -> bool {
         (tables.written.len(), LIST_ENTRIES * n),
         (tables.view.len(), SETTINGS),
         (tables.versions.len(), n),
+        (tables.cutoff.len(), 1),
+        (tables.kept.len(), SETTINGS),
     ];
     lengths.iter().all(|(length, given)| length == given)
 }
@@ -225,7 +260,9 @@ pub fn check_lengths(n: usize, tables: &Tables) -> bool {
 ///
 /// "Tables are in form when counts, order, status, flags, settings, programs and unused slots obey
 /// this section, timestamps are valid and distinct, no list names a setting twice, and a New
-/// change's lists are empty. The view is not tested." The version is "0 or 1" (document 02, R-6).
+/// change's lists are empty. The view is not tested." The version is "0 or 1" (document 02, R-6). "In
+/// form, the cutoff is at most 2^64 − 2 and no held timestamp lies below it." (document 02, R-7) The
+/// kept values are not tested.
 ///
 /// # Panics
 ///
@@ -235,6 +272,7 @@ pub fn in_form(n: usize, tables: &Tables) -> bool {
     held <= n
         && timestamps_in_form(&tables.timestamps[..held])
         && order_in_form(&tables.order, &tables.timestamps[..held])
+        && cutoff_in_form(tables.cutoff[0], &tables.timestamps[..held])
         && (0..held).all(|place| change_in_form(tables, place))
         && (held..n).all(|place| is_unused(tables, place))
 }
@@ -252,6 +290,12 @@ fn order_in_form(order: &[u16], timestamps: &[u64]) -> bool {
     places.sort_unstable_by_key(|&place| timestamps[place]);
     let (used, unused) = order.split_at(places.len());
     used.iter().map(|&place| usize::from(place)).eq(places) && all_zero(unused)
+}
+
+/// Whether the cutoff is no infinity, and none of these timestamps is lower.
+fn cutoff_in_form(cutoff: u64, timestamps: &[u64]) -> bool {
+    let lowest = timestamps.iter().copied().min();
+    cutoff < INFINITY && lowest.is_none_or(|lowest| cutoff <= lowest)
 }
 
 /// Whether status, flag, version, program and lists at a held place are in form.

@@ -18,6 +18,8 @@ pub enum Refusal {
     Package = 3,
     /// The timestamp is 0 or 2^64 − 1; value as of allows 2^64 − 1.
     Timestamp = 4,
+    /// The timestamp is below the cutoff.
+    Cutoff = 14,
     /// The setting number is above 1,023.
     Setting = 5,
     /// The program is over 256 bytes or no multiple of 8.
@@ -34,6 +36,8 @@ pub enum Refusal {
     NotHeld = 10,
     /// The change is withdrawn already.
     Withdrawn = 11,
+    /// A New or Invalid change is stamped below the new cutoff.
+    Unsettled = 15,
     /// The package would have more than 512 entries, more than 65,535 bytes or more than the lent
     /// slice.
     Room = 12,
@@ -41,11 +45,12 @@ pub enum Refusal {
 
 impl Refusal {
     /// All refusals, in checking order.
-    pub const ALL: [Self; 13] = [
+    pub const ALL: [Self; 15] = [
         Self::Length,
         Self::Form,
         Self::Package,
         Self::Timestamp,
+        Self::Cutoff,
         Self::Setting,
         Self::ProgramLength,
         Self::Version,
@@ -54,10 +59,11 @@ impl Refusal {
         Self::Full,
         Self::NotHeld,
         Self::Withdrawn,
+        Self::Unsettled,
         Self::Room,
     ];
 
-    /// The number of the refusal, 1 to 13.
+    /// The number of the refusal, 1 to 15.
     pub fn number(self) -> u8 {
         self as u8
     }
@@ -77,6 +83,7 @@ impl fmt::Display for Refusal {
             Self::Form => "the tables are not in form",
             Self::Package => "the package breaks its layout or length",
             Self::Timestamp => "the timestamp is out of range",
+            Self::Cutoff => "the timestamp is below the cutoff",
             Self::Setting => "there is no such setting",
             Self::ProgramLength => "the program is over 256 bytes or no multiple of 8",
             Self::Version => "the version is above 1",
@@ -85,6 +92,7 @@ impl fmt::Display for Refusal {
             Self::Full => "the tables are full",
             Self::NotHeld => "the timestamp is not held",
             Self::Withdrawn => "the change is withdrawn already",
+            Self::Unsettled => "a New or Invalid change is stamped below the new cutoff",
             Self::Room => "the package would have over 512 entries or 65,535 bytes, or does not fit into the lent slice",
         };
         write!(f, "refused {}: {reason}", self.number())

@@ -18,7 +18,7 @@ pub fn start_values() -> [i32; SETTINGS] {
 ///
 /// Changes are taken in and withdrawn in any order; after a [`drain`](Self::drain) the settings are
 /// those that all held changes give, run in the order of their timestamps, each by its own version,
-/// withdrawn ones passed over.
+/// withdrawn ones passed over. A [`cutoff`](Self::cutoff) drops old changes and keeps what they leave.
 ///
 /// The error of a method is the refusal, and a refused call alters nothing. The tables of a cabinet
 /// made by [`new`](Self::new) are in form at all times, so that its calls are never refused for
@@ -61,7 +61,8 @@ impl Cabinet {
         self.tables
     }
 
-    /// Forgets all changes: every table at 0, every setting at its start value.
+    /// Forgets all changes and the cutoff: every table at 0, every setting and kept value at its start
+    /// value.
     pub fn set_up(&mut self) -> Result<(), Refusal> {
         calls::set_up(self.capacity, &mut self.tables)
     }
@@ -106,13 +107,56 @@ impl Cabinet {
         Ok(totals.into())
     }
 
+    /// Drops every change stamped below a timestamp, the new cutoff, and keeps each setting's value as
+    /// of it, from which all that comes after begins. It is for a cabinet that fills up, once all sites
+    /// agree that nothing older will be issued: freed places take new changes.
+    ///
+    /// Changes below the cutoff must have had their turns ([`Refusal::Unsettled`]). From then on no call
+    /// takes a timestamp below it ([`Refusal::Cutoff`]), and the cutoff does not go back.
+    ///
+    /// ```
+    /// use tolbezun::{program, setting, Cabinet, Instruction, Refusal, Version};
+    ///
+    /// /// A change that sets the untagged VLAN of port 2.
+    /// fn set(vlan: i32) -> Vec<u8> {
+    ///     let setting = setting(2, 2) as i32;
+    ///     program(&[
+    ///         Instruction::Constant { a: 0, n: vlan },
+    ///         Instruction::Write { a: 0, setting },
+    ///     ])
+    /// }
+    ///
+    /// fn main() -> Result<(), Refusal> {
+    ///     let mut cabinet = Cabinet::new(2)?;
+    ///     cabinet.take_in(10, Version::Zero, &set(7))?;
+    ///     cabinet.take_in(20, Version::Zero, &set(30))?;
+    ///     assert_eq!(cabinet.take_in(30, Version::Zero, &set(8)), Err(Refusal::Full));
+    ///
+    ///     assert_eq!(cabinet.cutoff(20), Err(Refusal::Unsettled));
+    ///     cabinet.drain()?;
+    ///     cabinet.cutoff(20)?;
+    ///     assert_eq!(cabinet.standing(10), Err(Refusal::Cutoff));
+    ///     assert_eq!(cabinet.value_as_of(20, setting(2, 2)), Ok(7));
+    ///
+    ///     cabinet.take_in(30, Version::Zero, &set(8))?;
+    ///     cabinet.withdraw(20)?;
+    ///     cabinet.withdraw(30)?;
+    ///     cabinet.drain()?;
+    ///     assert_eq!(cabinet.current_value(setting(2, 2)), Ok(7));
+    ///     Ok(())
+    /// }
+    /// ```
+    pub fn cutoff(&mut self, timestamp: u64) -> Result<(), Refusal> {
+        calls::cutoff(self.capacity, &mut self.tables, timestamp)
+    }
+
     /// The current value of a setting.
     pub fn current_value(&self, setting: usize) -> Result<i32, Refusal> {
         calls::current_value(self.capacity, &self.tables, setting)
     }
 
     /// The value of a setting as of a timestamp: that of the highest write stamped below it, else
-    /// the start.
+    /// the kept value, which is the start value until there is a cutoff.
     pub fn value_as_of(&self, timestamp: u64, setting: usize) -> Result<i32, Refusal> {
         calls::value_as_of(self.capacity, &self.tables, timestamp, setting)
     }
@@ -122,8 +166,8 @@ impl Cabinet {
         calls::standing(self.capacity, &self.tables, timestamp)
     }
 
-    /// What all held changes leave, run in timestamp order on settings of their own, withdrawn ones
-    /// passed over. After a drain these are the current values.
+    /// What all held changes leave, run in timestamp order on settings of their own, which begin at
+    /// the kept values, withdrawn ones passed over. After a drain these are the current values.
     pub fn plain_run(&self) -> Result<Vec<i32>, Refusal> {
         let mut settings = vec![0; SETTINGS];
         calls::plain_run(self.capacity, &self.tables, &mut settings)?;
@@ -132,7 +176,8 @@ impl Cabinet {
 
     /// All held changes by rising timestamp, then the withdrawals by rising timestamp, as one
     /// package, from which a replacement cabinet is filled. It must have room for the held changes,
-    /// withdrawn ones too; drained, it has what this cabinet has once that is drained.
+    /// withdrawn ones too; drained, it has what this cabinet has once that is drained, if neither has
+    /// had a [`cutoff`](Self::cutoff): a package has no kept values.
     ///
     /// More than one package can have, 512 entries and 65,535 bytes, is refused
     /// ([`Refusal::Room`]). A withdrawn change is two entries.

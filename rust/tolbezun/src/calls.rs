@@ -43,6 +43,10 @@ macro_rules! call {
             $tables.view.len(),
             $tables.version.$pointer(),
             $tables.version.len(),
+            $tables.cutoff.$pointer(),
+            $tables.cutoff.len(),
+            $tables.kept.$pointer(),
+            $tables.kept.len(),
             $($argument),*
         )
     };
@@ -57,7 +61,7 @@ pub const TOTALS: usize = 1_024;
 /// The most bytes that a package has.
 pub const PACKAGE_BYTES: usize = 65_535;
 
-/// Sets up the tables: every slot 0, the view at the start values.
+/// Sets up the tables: every slot 0, the view and the kept values at the start values.
 pub fn set_up(n: usize, tables: &mut Tables) -> Result<(), Refusal> {
     // SAFETY: pointers and lengths are those of distinct vectors, which may be written, and nothing
     // more is required.
@@ -162,6 +166,14 @@ pub fn drain(n: usize, tables: &mut Tables, totals: &mut [u16]) -> Result<(), Re
     done(unsafe { call!(tolbezun_drain(n, tables.as_mut_ptr(), totals, length)) })
 }
 
+/// Drops every change stamped below a timestamp, the new cutoff, and keeps each setting's value as of
+/// it: every table but the view. The others close up in order of arrival.
+pub fn cutoff(n: usize, tables: &mut Tables, timestamp: u64) -> Result<(), Refusal> {
+    // SAFETY: pointers and lengths are those of distinct vectors, which may be written, and nothing
+    // more is required.
+    done(unsafe { call!(tolbezun_cutoff(n, tables.as_mut_ptr(), timestamp)) })
+}
+
 /// The current value of a setting, from the view.
 pub fn current_value(n: usize, tables: &Tables, setting: usize) -> Result<i32, Refusal> {
     // SAFETY: pointers and lengths are those of vectors, and nothing more is required.
@@ -169,7 +181,7 @@ pub fn current_value(n: usize, tables: &Tables, setting: usize) -> Result<i32, R
 }
 
 /// The value of a setting as of a timestamp: that of the highest write stamped below it, else the
-/// start.
+/// kept value.
 pub fn value_as_of(
     n: usize,
     tables: &Tables,
@@ -201,7 +213,8 @@ pub fn standing(n: usize, tables: &Tables, timestamp: u64) -> Result<Standing, R
 }
 
 /// Runs all held changes in timestamp order, withdrawn ones passed over, on settings of its own,
-/// and writes what they leave to the lent settings, which must be 1,024.
+/// which begin at the kept values, and writes what they leave to the lent settings, which must be
+/// 1,024.
 pub fn plain_run(n: usize, tables: &Tables, settings: &mut [i32]) -> Result<(), Refusal> {
     let (settings, length) = (settings.as_mut_ptr(), settings.len());
     // SAFETY: pointers and lengths are those of vectors and of a distinct slice, which may be

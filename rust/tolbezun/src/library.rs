@@ -41,7 +41,11 @@ macro_rules! declare {
                 view: *$kind i32,
                 view_len: usize,
                 versions: *$kind u16,
-                versions_len: usize
+                versions_len: usize,
+                cutoff: *$kind u64,
+                cutoff_len: usize,
+                kept: *$kind i32,
+                kept_len: usize
                 $(, $argument: $type)*
             ) -> $answer;)*
             $(fn $other($($parameter: $kind_of),*) -> $other_answer;)*
@@ -89,6 +93,8 @@ declare! {
     fn tolbezun_turn(tables: *mut, values: *mut u64, values_len: usize) -> u8;
 
     fn tolbezun_drain(tables: *mut, totals: *mut u16, totals_len: usize) -> u8;
+
+    fn tolbezun_cutoff(tables: *mut, timestamp: u64) -> u8;
 
     fn tolbezun_current_value(tables: *const, setting: usize) -> i64;
 

@@ -20,8 +20,8 @@ pub const fn setting(port: usize, field: usize) -> usize {
     port * FIELDS + field
 }
 
-/// The fourteen tables of document 01, "Tables", and that of the versions (document 02, R-6). A place
-/// is a change, in order of arrival.
+/// The fourteen tables of document 01, "Tables", and from document 02 those of the versions, of
+/// the cutoff and of the kept values. A place is a change, in order of arrival.
 ///
 /// They may have any lengths and contents: a call refuses those that it cannot use.
 #[derive(Clone, Debug, PartialEq, Eq)]
@@ -56,11 +56,15 @@ pub struct Tables {
     pub view: Vec<i32>,
     /// The version of each place (N): 0 or 1.
     pub version: Vec<u16>,
+    /// The cutoff (1 entry): no change stamped below it is held or taken in.
+    pub cutoff: Vec<u64>,
+    /// The value of each setting as of the cutoff (1,024).
+    pub kept: Vec<i32>,
 }
 
 impl Tables {
     /// Tables of the lengths for this capacity, with 0 in every slot. They are to be set up before
-    /// other calls: the view of tables just set up has the start values.
+    /// other calls: the view and the kept values of tables just set up are the start values.
     pub fn new(capacity: usize) -> Self {
         Self {
             held: vec![0; 1],
@@ -78,6 +82,8 @@ impl Tables {
             written_values: vec![0; LIST_ENTRIES * capacity],
             view: vec![0; SETTINGS],
             version: vec![0; capacity],
+            cutoff: vec![0; 1],
+            kept: vec![0; SETTINGS],
         }
     }
 }

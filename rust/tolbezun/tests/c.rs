@@ -115,6 +115,17 @@ turn 4 2 2 77
 turn 1 3 2 77
 current_value -10
 turn 18 3 2 77
+cutoff 1 4 4 0 15 0: 2 2 0
+turn 3 2 2 77
+cutoff 0: 1 3 0
+cutoff 0: 0 4 -10
+below 14 14 14 4294967310 65550
+value_as_of -10 1
+plain_run 0: -10 1
+take_in_package 0 0 10 0 14
+turn 18 2 2 77
+cutoff 0 0 0: 1 18446744073709551614
+set_up 0: 0 0 1
 not in form 2 18 65538 65538
 drain 1 1024 77
 drain 2 1024 77

@@ -102,6 +102,7 @@ fn capacities_other_than_1_to_4096_are_refused() {
         assert_eq!(cabinet.capacity(), capacity);
         let set_up = Tables {
             view: start_values().to_vec(),
+            kept: start_values().to_vec(),
             ..Tables::new(capacity)
         };
         assert_eq!(*cabinet.tables(), set_up);
@@ -330,11 +331,14 @@ fn every_refusal_has_its_number_and_its_call() {
     broken.held[0] = 2;
     let mut withdrawn = cabinet.clone();
     assert_eq!(withdrawn.withdraw(5), Ok(()));
+    let mut cut_off = Cabinet::new(1).unwrap();
+    assert_eq!(cut_off.cutoff(6), Ok(()));
     let refused = [
         Cabinet::with_tables(1, short).drain().err(),
         Cabinet::with_tables(1, broken).turn().err(),
         cabinet.take_in_package(&[1, 0]).err(),
         cabinet.withdraw(0).err(),
+        cut_off.withdraw(5).err(),
         cabinet.current_value(SETTINGS).err(),
         cabinet.take_in(5, Zero, &[0; 264]).err(),
         calls::take_in(1, &mut cabinet.clone().into_tables(), 5, 2, &[]).err(),
@@ -343,10 +347,11 @@ fn every_refusal_has_its_number_and_its_call() {
         cabinet.take_in(6, Zero, &[]).err(),
         cabinet.standing(6).err(),
         withdrawn.withdraw(5).err(),
+        cabinet.cutoff(6).err(),
         calls::package_out(1, cabinet.tables(), &mut [0; 29]).err(),
     ];
     assert_eq!(refused, Refusal::ALL.map(Some));
-    let numbers = [1, 2, 3, 4, 5, 6, 13, 7, 8, 9, 10, 11, 12];
+    let numbers = [1, 2, 3, 4, 14, 5, 6, 13, 7, 8, 9, 10, 11, 15, 12];
     for (number, refusal) in numbers.into_iter().zip(Refusal::ALL) {
         assert_eq!(refusal.number(), number);
         assert_eq!(Refusal::from_number(number), Some(refusal));
@@ -354,7 +359,7 @@ fn every_refusal_has_its_number_and_its_call() {
             .to_string()
             .starts_with(&format!("refused {number}: ")));
     }
-    for number in [0, 14, 255] {
+    for number in [0, 16, 255] {
         assert_eq!(Refusal::from_number(number), None);
     }
 }
@@ -386,6 +391,14 @@ fn answers_read_as_people_say_them() {
         (
             Refusal::Version.to_string(),
             "refused 13: the version is above 1",
+        ),
+        (
+            Refusal::Cutoff.to_string(),
+            "refused 14: the timestamp is below the cutoff",
+        ),
+        (
+            Refusal::Unsettled.to_string(),
+            "refused 15: a New or Invalid change is stamped below the new cutoff",
         ),
     ] {
         assert_eq!(said, expected);

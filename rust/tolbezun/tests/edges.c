@@ -8,18 +8,19 @@
 #define N 2
 static uint16_t held[1], order[N], status[N], withdrawn[N], length[N], read_count[N], write_count[N];
 static uint16_t read_settings[32 * N], write_settings[32 * N], versions[N];
-static uint64_t timestamps[N];
+static uint64_t timestamps[N], cutoff[1];
 static uint8_t programs[256 * N];
-static int32_t seen_values[32 * N], written_values[32 * N], view[1024];
+static int32_t seen_values[32 * N], written_values[32 * N], view[1024], kept[1024];
 
 #define LENT(CAPACITY)                                                                              \
     CAPACITY, held, 1, timestamps, N, order, N, status, N, withdrawn, N, length, N, programs,       \
         256 * N, read_count, N, write_count, N, read_settings, 32 * N, seen_values, 32 * N,         \
-        write_settings, 32 * N, written_values, 32 * N, view, 1024, versions, N
+        write_settings, 32 * N, written_values, 32 * N, view, 1024, versions, N, cutoff, 1, kept,   \
+        1024
 #define TABLES LENT(N)
 #define NOTHING                                                                                     \
     NULL, 0, NULL, 0, NULL, 0, NULL, 0, NULL, 0, NULL, 0, NULL, 0, NULL, 0, NULL, 0, NULL, 0, NULL, \
-        0, NULL, 0, NULL, 0, NULL, 0, NULL, 0
+        0, NULL, 0, NULL, 0, NULL, 0, NULL, 0, NULL, 0, NULL, 0
 
 /* r0 = -5; setting 1023 = r0 */
 static const uint8_t change[] = {1, 0, 0, 0, 0xFB, 0xFF, 0xFF, 0xFF, 13, 0, 0, 0, 0xFF, 3, 0, 0};
@@ -53,13 +54,13 @@ static void turn(size_t entries)
  * by their places, the others that are not 0; then the last. */
 static void drain(size_t entries)
 {
-    size_t kept = 0;
+    size_t unaltered = 0;
     for (size_t i = 0; i < 1025; i++)
         totals[i] = 77;
     printf("drain %d", tolbezun_drain(TABLES, totals, entries));
     for (size_t i = 0; i < 1024; i++)
-        kept += totals[i] == 77;
-    printf(" %zu", kept);
+        unaltered += totals[i] == 77;
+    printf(" %zu", unaltered);
     for (size_t i = 0; i < 1024; i++)
         if (totals[i] != 77 && totals[i] != 0)
             printf(" %zu:%" PRIu16, i, totals[i]);
@@ -169,6 +170,39 @@ int main(void)
     versions[1] = 2;
     turn(2);
     versions[1] = 0;
+    /* 3, which arrived first, reads back; 2 has faulted. */
+    printf("cutoff %d %d", tolbezun_cutoff(LENT(3), 3), tolbezun_cutoff(TABLES, 0));
+    printf(" %d", tolbezun_cutoff(TABLES, UINT64_MAX));
+    printf(" %d", tolbezun_withdraw(TABLES, 2));
+    printf(" %d", tolbezun_cutoff(TABLES, 3));
+    printf(" %d", tolbezun_cutoff(TABLES, 2));
+    printf(": %" PRIu16 " %" PRIu64 " %" PRId32 "\n", held[0], cutoff[0], kept[1023]);
+    turn(2);
+    printf("cutoff %d", tolbezun_cutoff(TABLES, 3));
+    printf(": %" PRIu16 " %" PRIu64 " %" PRId32 "\n", held[0], cutoff[0], kept[1023]);
+    printf("cutoff %d", tolbezun_cutoff(TABLES, 4));
+    printf(": %" PRIu16 " %" PRIu64 " %" PRId32 "\n", held[0], cutoff[0], kept[1023]);
+    printf("below %d %d", tolbezun_cutoff(TABLES, 3), tolbezun_take_in(TABLES, 3, 2, read_back, 7));
+    printf(" %d", tolbezun_withdraw(TABLES, 3));
+    printf(" %" PRId64 " %" PRIu32 "\n", tolbezun_value_as_of(TABLES, 3, 1024), tolbezun_standing(TABLES, 3));
+    printf("value_as_of %" PRId64 " %" PRId64 "\n", tolbezun_value_as_of(TABLES, 4, 1023),
+           tolbezun_value_as_of(TABLES, 4, 2));
+    printf("plain_run %d", tolbezun_plain_run(TABLES, settings, 1024));
+    printf(": %" PRId32 " %" PRId32 "\n", settings[1023], settings[2]);
+    printf("take_in_package %d", tolbezun_take_in_package(TABLES, package, sizeof package, answers, 512));
+    printf(" %d", tolbezun_cutoff(TABLES, 16));
+    printf(" %d", answers[0]);
+    printf(" %d", tolbezun_take_in_package(TABLES, package, sizeof package, answers, 512));
+    printf(" %d\n", answers[0]);
+    cutoff[0] = UINT64_MAX;
+    turn(2);
+    cutoff[0] = 16;
+    printf("cutoff %d", tolbezun_cutoff(TABLES, UINT64_MAX - 1));
+    printf(" %d", tolbezun_take_in(TABLES, UINT64_MAX - 1, 0, change, sizeof change));
+    printf(" %d", tolbezun_cutoff(TABLES, UINT64_MAX - 1));
+    printf(": %" PRIu16 " %" PRIu64 "\n", held[0], cutoff[0]);
+    printf("set_up %d", tolbezun_set_up(TABLES));
+    printf(": %" PRIu64 " %" PRId32 " %" PRId32 "\n", cutoff[0], kept[1023], kept[2]);
     status[0] = 3;
     printf("not in form %d", tolbezun_withdraw(TABLES, 1));
     printf(" %d", tolbezun_turn(TABLES, values, 2));

@@ -12,7 +12,7 @@ know-list-requires-2 : tie.Need-know-list-requires-2
 know-list-requires-2 c κs =
     let m = c .before .before .before in
     let p = entry m .pre in
-    (p .0 .new-settings, record { placed = p .2 .placed; listed = p .2 .listed; right = m .know-list .ensures .1 .right })
+    (p .0 .new-settings, record { placed = p .2 .placed; listed = p .2 .listed; kept-sized = p .2 .kept-sized; right = m .know-list .ensures .1 .right })
 
 carry-list-requires : tie.Need-carry-list-requires
 carry-list-requires c κs = let b = entry (c .before .before .before .before .before) .pre .0 in (b .old-same, b .old-settings)

@@ -32,7 +32,7 @@ seen-hold-requires c κs =
 
 -- the values as of the position
 abbrev upto : tie.Start → Environment
-upto s = let a = s .args in valuesBelow (a .order .now) (a .writes .now) (a .targets .now) (a .written .now) (a .k)
+upto s = let a = s .args in valuesBelow (a .order .now) (a .writes .now) (a .targets .now) (a .written .now) (a .kept .now) (a .k)
 
 -- the values seen, as the search has them
 seen-held : (c : tie.After-seen-hold) → let s = entry (c .before .before .before .before .before .before .before) in let a = s .args in c .seen-hold .result ≡ allHold (listIn (a .reads .now) (a .sources .now) (a .seen .now) (getD (a .order .now) (a .k) 0)) (upto s)

@@ -12,7 +12,7 @@ put-listing-requires : tie.Need-put-listing-requires
 put-listing-requires c κs = (zeros-fit, (length-replicate {A = ℕ} 512 0, le-of-eq (sym (length-replicate {A = ℕ} 131072 0))))
 
 slice-aggregate-write-all : tie.Need-slice-aggregate-write-all
-slice-aggregate-write-all c = c .before .before .before .before .before .before .before .before .before .before .before .before .before .before .before .before .before .before .put-listing .ensures .1 .1
+slice-aggregate-write-all c = c .before .before .before .before .before .before .before .before .before .before .before .before .before .before .before .before .before .before .before .before .put-listing .ensures .1 .1
 
 pub main-spec : {M : Type 1} → statement M
 main-spec =
@@ -20,6 +20,8 @@ main-spec =
     (tie.spec
     (λ c. search needs)
     (λ c κs. search needs)
+    (λ c. search needs)
+    (λ c. search needs)
     (λ c. search needs)
     (λ c. search needs)
     (λ c. search needs)

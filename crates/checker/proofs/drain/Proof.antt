@@ -13,14 +13,14 @@ use Rattle.checker.proofs.drain.Tie as tie
 abbrev lent : tie.Start → Tables
 lent s =
     let a = s .args in
-    tables (a .held .now) (a .timestamps .now) (a .order .now) (a .status .now) (a .withdrawn .now) (a .lengths .now) (a .programs .now) (a .reads .now) (a .writes .now) (a .sources .now) (a .seen .now) (a .targets .now) (a .written .now) (a .view .now) (a .versions .now)
+    tables (a .held .now) (a .timestamps .now) (a .order .now) (a .status .now) (a .withdrawn .now) (a .lengths .now) (a .programs .now) (a .reads .now) (a .writes .now) (a .sources .now) (a .seen .now) (a .targets .now) (a .written .now) (a .view .now) (a .versions .now) (a .cutoff .now) (a .kept .now)
 
 -- the length of the totals is tested, from the test of the tables
 abbrev tested : tie.After-fault → tie.Else1
 tested c = c .before .before .before .before .before .before .before .before .before
 
 abbrev entry : tie.Else1 → tie.Start
-entry c = c .before .before .before .before .before .before .before .before .before .before .before .before .before .before
+entry c = c .before .before .before .before .before .before .before .before .before .before .before .before .before .before .before
 
 -- the tables before the call
 abbrev given : tie.After-fault → Tables

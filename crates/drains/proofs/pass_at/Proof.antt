@@ -9,19 +9,19 @@ use Rattle.drains.proofs.pass_at.Tie as tie
 
 -- from a call, or the loop, to what stood before it
 abbrev before-moving : tie.Else1 → tie.Start
-before-moving c = c .before .before .before .before .before .before .before .before .before .before .before .before .before .before .before
+before-moving c = c .before .before .before .before .before .before .before .before .before .before .before .before .before .before .before .before
 
 abbrev called : tie.After-view → tie.After-turn-at
 called c = c .before .before .before .before .before .before .before .before .before .before .before .before .before
 
 carry-place-requires : tie.Need-carry-place-requires
 carry-place-requires c κs =
-    let start = c .before .before .before .before .before .before .before .before .before .before .before .before .before .before .before .before .before .before .before .before in
+    let start = c .before .before .before .before .before .before .before .before .before .before .before .before .before .before .before .before .before .before .before .before .before in
     pass-carries (start .pre .0) (start .pre .1)
 
 returns : tie.Need-returns
 returns c =
-    let start = c .before .before .before .before .before .before .before .before .before .before .before .before .before .before .before .before .before .before .before .before .before in
+    let start = c .before .before .before .before .before .before .before .before .before .before .before .before .before .before .before .before .before .before .before .before .before .before in
     pass-valid (start .pre .0) (start .pre .1) (c .before .before .before .before .before .before .if1 .taken) (c .carry-place .ensures)
 
 turn-at-requires : tie.Need-turn-at-requires
@@ -39,11 +39,11 @@ pub pass-at-spec : {M : Type 1} → statement M
 pass-at-spec =
     tie.close
     (tie.spec
-    (λ c. let z = pass-slots (c .before .before .before .before .before .before .before .before .before .before .before .before .pre .0) (c .before .before .before .before .before .before .before .before .before .before .before .before .pre .1) in omega (arith, z .position, z .few))
-    (λ c. pass-slots (c .before .before .before .before .before .before .before .before .before .before .before .before .before .pre .0) (c .before .before .before .before .before .before .before .before .before .before .before .before .before .pre .1) .order)
-    (λ c. omega (arith, pass-slots (c .before .before .before .before .before .before .before .before .before .before .before .before .before .pre .0) (c .before .before .before .before .before .before .before .before .before .before .before .before .before .pre .1) .place))
-    (λ c. omega (arith, pass-slots (c .before .before .before .before .before .before .before .before .before .before .before .before .before .pre .0) (c .before .before .before .before .before .before .before .before .before .before .before .before .before .pre .1) .place))
-    (λ c. pass-slots (c .before .before .before .before .before .before .before .before .before .before .before .before .before .before .pre .0) (c .before .before .before .before .before .before .before .before .before .before .before .before .before .before .pre .1) .status)
+    (λ c. let z = pass-slots (c .before .before .before .before .before .before .before .before .before .before .before .before .before .pre .0) (c .before .before .before .before .before .before .before .before .before .before .before .before .before .pre .1) in omega (arith, z .position, z .few))
+    (λ c. pass-slots (c .before .before .before .before .before .before .before .before .before .before .before .before .before .before .pre .0) (c .before .before .before .before .before .before .before .before .before .before .before .before .before .before .pre .1) .order)
+    (λ c. omega (arith, pass-slots (c .before .before .before .before .before .before .before .before .before .before .before .before .before .before .pre .0) (c .before .before .before .before .before .before .before .before .before .before .before .before .before .before .pre .1) .place))
+    (λ c. omega (arith, pass-slots (c .before .before .before .before .before .before .before .before .before .before .before .before .before .before .pre .0) (c .before .before .before .before .before .before .before .before .before .before .before .before .before .before .pre .1) .place))
+    (λ c. pass-slots (c .before .before .before .before .before .before .before .before .before .before .before .before .before .before .before .pre .0) (c .before .before .before .before .before .before .before .before .before .before .before .before .before .before .before .pre .1) .status)
     carry-place-requires
     (λ c. refl)
     (λ c. refl)

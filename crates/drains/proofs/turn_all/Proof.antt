@@ -12,14 +12,14 @@ use Rattle.drains.proofs.turn_all.Tie as tie
 
 -- from a call, or the loop, to what stood before it
 abbrev before-waiting : tie.After-waiting → tie.Start
-before-waiting c = c .before .before .before .before .before .before .before .before .before .before .before .before .before .before .before .before
+before-waiting c = c .before .before .before .before .before .before .before .before .before .before .before .before .before .before .before .before .before
 
 abbrev called : tie.After-slice-known12 → tie.After-turn-from
 called c = c .before .before .before .before .before .before .before .before .before .before .before .before .before .before .before
 
 waiting-requires : tie.Need-waiting-requires
 waiting-requires c κs =
-    let start = c .before .before .before .before .before .before .before .before .before .before .before .before .before .before .before in
+    let start = c .before .before .before .before .before .before .before .before .before .before .before .before .before .before .before .before in
     placed-status (start .pre .0)
 
 turn-from-requires : tie.Need-turn-from-requires
@@ -43,8 +43,8 @@ pub turn-all-spec : {M : Type 1} → statement M
 turn-all-spec =
     tie.close
     (tie.spec
-    (λ c. omega (arith, facts (c .before .before .before .before .before .before .before .before .before .before .before .before .before .before .pre .0) .sizes .held))
-    (λ c. omega (arith, c .shared-slice-known8 .given 0))
+    (λ c. omega (arith, facts (c .before .before .before .before .before .before .before .before .before .before .before .before .before .before .before .pre .0) .sizes .held))
+    (λ c. omega (arith, c .shared-slice-known9 .given 0))
     waiting-requires
     (λ c. search needs)
     turn-from-requires

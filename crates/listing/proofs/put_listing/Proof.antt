@@ -13,29 +13,29 @@ use Rattle.listing.proofs.put_listing.Tie as tie
 abbrev lent : tie.Start → Tables
 lent s =
     let a = s .args in
-    tables (a .held .now) (a .timestamps .now) (a .order .now) (a .status .now) (a .withdrawn .now) (a .lengths .now) (a .programs .now) (a .reads .now) (a .writes .now) (a .sources .now) (a .seen .now) (a .targets .now) (a .written .now) (a .view .now) (a .versions .now)
+    tables (a .held .now) (a .timestamps .now) (a .order .now) (a .status .now) (a .withdrawn .now) (a .lengths .now) (a .programs .now) (a .reads .now) (a .writes .now) (a .sources .now) (a .seen .now) (a .targets .now) (a .written .now) (a .view .now) (a .versions .now) (a .cutoff .now) (a .kept .now)
 
 -- the entry, from the call of set up
 abbrev entry : tie.After-set-up → tie.Start
-entry c = c .before .before .before .before .before .before .before .before .before .before .before .before .before .before .before .before .before .before .before .before .before .before .before .before .before .before .before .before .before .before .before
+entry c = c .before .before .before .before .before .before .before .before .before .before .before .before .before .before .before .before .before .before .before .before .before .before .before .before .before .before .before .before .before .before .before .before .before .before
 
 -- the call of set up, from that of take in a package
 abbrev prepared : tie.After-take-in-package → tie.After-set-up
-prepared c = c .before .before .before .before .before .before .before .before .before .before .before .before .before .before .before .before .before .before .before .before .before .before .before .before .before .before .before .before .before .before .before .before .before .before .before .before .before .before .before .before .before .before .before .before
+prepared c = c .before .before .before .before .before .before .before .before .before .before .before .before .before .before .before .before .before .before .before .before .before .before .before .before .before .before .before .before .before .before .before .before .before .before .before .before .before .before .before .before .before .before .before .before .before .before .before .before .before
 
 -- the call of take in a package, from that of the reply
-abbrev packaged : tie.After-put-reply-arg17 → tie.After-take-in-package
-packaged c = c .before .before .before .before .before .before .before .before .before .before .before .before .before .before .before .before .before .before .before .before .before .before .before .before .before .before .before .before .before .before .before .before .before .before .before
+abbrev packaged : tie.After-put-reply-arg19 → tie.After-take-in-package
+packaged c = c .before .before .before .before .before .before .before .before .before .before .before .before .before .before .before .before .before .before .before .before .before .before .before .before .before .before .before .before .before .before .before .before .before .before .before .before .before
 
 -- the call of the reply, from the return
-abbrev replied : tie.After-slice-known41 → tie.After-put-reply
+abbrev replied : tie.After-slice-known43 → tie.After-put-reply
 replied c = c .before .before .before .before .before .before .before .before .before .before .before .before .before .before .before
 
 -- the lengths of the tables at the start, and after the package is taken in
-at-start : (c : tie.After-slice-known41) → Lengths capacity (lent (entry (prepared (packaged (replied c .before)))))
+at-start : (c : tie.After-slice-known43) → Lengths capacity (lent (entry (prepared (packaged (replied c .before)))))
 at-start c = lengths-of _ _ (entry (prepared (packaged (replied c .before))) .pre .0)
 
-at-package : (c : tie.After-slice-known41) → Lengths capacity (left-tables (packaged (replied c .before) .take-in-package .ensures))
+at-package : (c : tie.After-slice-known43) → Lengths capacity (left-tables (packaged (replied c .before) .take-in-package .ensures))
 at-package c =
     let t = packaged (replied c .before) in
     let s = entry (prepared t) in
@@ -77,6 +77,8 @@ put-listing-spec =
     (λ c. written-kept (replied c .put-reply .kept) ∙ at-package c .written ∙ sym (at-start c .written))
     (λ c. view-kept (replied c .put-reply .kept) ∙ at-package c .view ∙ sym (at-start c .view))
     (λ c. at-package c .versions ∙ sym (at-start c .versions))
+    (λ c. at-package c .cutoff ∙ sym (at-start c .cutoff))
+    (λ c. at-package c .kept ∙ sym (at-start c .kept))
     (λ c. behind (behind-tables (behind (packaged (replied c .before) .take-in-package .kept))) .0)
     (λ c. behind (behind (behind (behind-tables (replied c .put-reply .kept)))) .0)
     returns)

@@ -4,28 +4,28 @@ use Prim.Native.Nat.{_-_, _<_}
 use native.Mathlib.Omega.{arith}
 use borrow.Author.Tests.{ltb-true, ltb-false}
 use lib.Dec.{ltb}
-use Rattle.model.specs.Tables.{Tables, withPackage}
+use Rattle.model.specs.Tables.{Tables}
 use Rattle.model.specs.Package.{entryCount, entryAt}
 use Rattle.model.proofs.Tests.{Lengths}
 use Rattle.model.proofs.Form.{facts}
 use Rattle.packages.proofs.Entries.{laid-out}
-use Rattle.package_intake.specs.Entries.{EntryReady}
+use Rattle.package_intake.specs.Entries.{withLent, EntryReady}
 use Rattle.package_intake.proofs.Entries.{bytes-short, entry-inside, body-inside, EntriesBefore, entries-none, still-lengths, still-sized, answer-within, entry-ready, entries-next, entries-taken}
 use Rattle.package_intake.proofs.take_entries.Statement.{statement}
 use Rattle.package_intake.proofs.take_entries.Tie as tie
 
 abbrev Inv-loop : tie.InvT-loop
-Inv-loop held₀ timestamps₀ order₀ status₀ withdrawn₀ lengths₀ programs₀ versions₀ bytes answers₀ count body₀ j₀ left₀ held timestamps order status withdrawn lengths programs versions answers body j left =
-    (left ≡ ltb j count) × EntriesBefore bytes answers₀ (λ T. withPackage T held₀ timestamps₀ order₀ status₀ withdrawn₀ lengths₀ programs₀ versions₀) j body (λ T. withPackage T held timestamps order status withdrawn lengths programs versions) answers
+Inv-loop held₀ timestamps₀ order₀ status₀ withdrawn₀ lengths₀ programs₀ versions₀ cutoff bytes answers₀ count body₀ j₀ left₀ held timestamps order status withdrawn lengths programs versions answers body j left =
+    (left ≡ ltb j count) × EntriesBefore bytes answers₀ (λ T. withLent T held₀ timestamps₀ order₀ status₀ withdrawn₀ lengths₀ programs₀ versions₀ cutoff) j body (λ T. withLent T held timestamps order status withdrawn lengths programs versions cutoff) answers
 
 abbrev μ-loop : tie.MeasureT-loop
-μ-loop held₀ timestamps₀ order₀ status₀ withdrawn₀ lengths₀ programs₀ versions₀ bytes answers₀ count body₀ j₀ left₀ held timestamps order status withdrawn lengths programs versions answers body j left =
+μ-loop held₀ timestamps₀ order₀ status₀ withdrawn₀ lengths₀ programs₀ versions₀ cutoff bytes answers₀ count body₀ j₀ left₀ held timestamps order status withdrawn lengths programs versions answers body j left =
     count - j
 
 -- ---- the places of the code, from each the one before
 
 abbrev entry : tie.After-slice-known9 Inv-loop μ-loop → tie.Start Inv-loop μ-loop
-entry c = c .before .before .before .before .before .before .before .before .before .before
+entry c = c .before .before .before .before .before .before .before .before .before .before .before
 
 abbrev counted : tie.At-loop Inv-loop μ-loop → tie.After-entry-count Inv-loop μ-loop
 counted c = c .before .before
@@ -47,12 +47,12 @@ turn c = asked (taken (c .before) .before)
 abbrev lent : tie.Start Inv-loop μ-loop → Tables → Tables
 lent s T =
     let a = s .args in
-    withPackage T (a .held .now) (a .timestamps .now) (a .order .now) (a .status .now) (a .withdrawn .now) (a .lengths .now) (a .programs .now) (a .versions .now)
+    withLent T (a .held .now) (a .timestamps .now) (a .order .now) (a .status .now) (a .withdrawn .now) (a .lengths .now) (a .programs .now) (a .versions .now) (a .cutoff .now)
 
 abbrev current : tie.At-loop Inv-loop μ-loop → Tables → Tables
 current c T =
     let l = c .loop in
-    withPackage T (l .held) (l .timestamps) (l .order) (l .status) (l .withdrawn) (l .lengths) (l .programs) (l .versions)
+    withLent T (l .held) (l .timestamps) (l .order) (l .status) (l .withdrawn) (l .lengths) (l .programs) (l .versions) (start c .args .cutoff .now)
 
 -- ---- what the loop knows
 

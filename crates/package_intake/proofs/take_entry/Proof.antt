@@ -4,11 +4,12 @@ use Prim.Native.Nat.{_+_, _*_, _≤_}
 use native.Mathlib.Omega.{arith}
 use borrow.Author.Needs.{needs}
 use lib.ListN.{length}
-use Rattle.model.specs.Tables.{Tables, withPackage}
+use Rattle.model.specs.Tables.{Tables}
 use Rattle.model.specs.Package.{itemAt}
 use Rattle.tables.proofs.Kept.{held-kept, timestamps-kept, order-kept, status-kept, withdrawn-kept}
 use Rattle.taking.proofs.Kept.{lengths-kept, programs-kept, versions-kept}
 use Rattle.packages.proofs.Items.{item-taking, item-withdrawing}
+use Rattle.package_intake.specs.Entries.{withLent}
 use Rattle.package_intake.proofs.Entries.{bytes-short, entry-inside, body-inside, formed-on, answered-on}
 use Rattle.package_intake.proofs.take_entry.Statement.{statement}
 use Rattle.package_intake.proofs.take_entry.Tie as tie
@@ -17,12 +18,12 @@ use Rattle.package_intake.proofs.take_entry.Tie as tie
 abbrev lent : tie.Start → Tables → Tables
 lent s T =
     let a = s .args in
-    withPackage T (a .held .now) (a .timestamps .now) (a .order .now) (a .status .now) (a .withdrawn .now) (a .lengths .now) (a .programs .now) (a .versions .now)
+    withLent T (a .held .now) (a .timestamps .now) (a .order .now) (a .status .now) (a .withdrawn .now) (a .lengths .now) (a .programs .now) (a .versions .now) (a .cutoff .now)
 
 -- ---- the places of the code, from each the one before
 
-abbrev entry : tie.After-shared-slice-known → tie.Start
-entry c = c .before .before .before .before .before .before .before .before .before
+abbrev entry : tie.After-shared-slice-known2 → tie.Start
+entry c = c .before .before .before .before .before .before .before .before .before .before
 
 abbrev start : tie.After-kind-at → tie.Start
 start c = entry (c .before .before)

@@ -15,12 +15,12 @@ use Rattle.package_intake.proofs.take_in_package.Tie as tie
 abbrev lent : tie.Start → Tables
 lent s =
     let a = s .args in
-    tables (a .held .now) (a .timestamps .now) (a .order .now) (a .status .now) (a .withdrawn .now) (a .lengths .now) (a .programs .now) (a .reads .now) (a .writes .now) (a .sources .now) (a .seen .now) (a .targets .now) (a .written .now) (a .view .now) (a .versions .now)
+    tables (a .held .now) (a .timestamps .now) (a .order .now) (a .status .now) (a .withdrawn .now) (a .lengths .now) (a .programs .now) (a .reads .now) (a .writes .now) (a .sources .now) (a .seen .now) (a .targets .now) (a .written .now) (a .view .now) (a .versions .now) (a .cutoff .now) (a .kept .now)
 
 -- ---- the places of the code, from each the one before
 
 abbrev entry : tie.After-slice-known9 → tie.Start
-entry c = c .before .before .before .before .before .before .before .before .before .before .before .before .before .before
+entry c = c .before .before .before .before .before .before .before .before .before .before .before .before .before .before .before
 
 abbrev sized : tie.After-fault → tie.Else1
 sized c = c .before .before .before .before .before .before .before .before .before
@@ -96,5 +96,5 @@ take-in-package-spec =
     (λ c. lengths-kept (taken c .take-entries .kept))
     (λ c. programs-kept (taken c .take-entries .kept))
     (λ c. programs-kept (behind (taken c .take-entries .kept)))
-    (λ c. programs-kept (behind (behind (behind (taken c .take-entries .kept)))))
+    (λ c. programs-kept (behind (behind (behind (behind (taken c .take-entries .kept))))))
     returns-3)

@@ -14,11 +14,11 @@ use Rattle.replies.proofs.put_reply.Tie as tie
 abbrev lent : tie.Start → Tables
 lent s =
     let a = s .args in
-    tables (a .held .now) (a .timestamps .now) (a .order .now) (a .status .now) (a .withdrawn .now) (a .lengths .now) (a .programs .now) (a .reads .now) (a .writes .now) (a .sources .now) (a .seen .now) (a .targets .now) (a .written .now) (a .view .now) (a .versions .now)
+    tables (a .held .now) (a .timestamps .now) (a .order .now) (a .status .now) (a .withdrawn .now) (a .lengths .now) (a .programs .now) (a .reads .now) (a .writes .now) (a .sources .now) (a .seen .now) (a .targets .now) (a .written .now) (a .view .now) (a .versions .now) (a .cutoff .now) (a .kept .now)
 
 -- the entry, from where the answer's number is known
 abbrev entry : tie.After-answer-number → tie.Start
-entry c = c .before .before .before .before .before .before .before .before .before .before .before .before .before .before .before .before
+entry c = c .before .before .before .before .before .before .before .before .before .before .before .before .before .before .before .before .before
 
 -- the line of a refused package, from its return
 abbrev refused : tie.After-slice-known7 → tie.After-put-refusal

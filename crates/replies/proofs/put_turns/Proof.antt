@@ -11,21 +11,21 @@ use Rattle.replies.proofs.put_turns.Statement.{statement}
 use Rattle.replies.proofs.put_turns.Tie as tie
 
 abbrev Inv-loop : tie.InvT-loop
-Inv-loop held timestamps order status₀ withdrawn lengths programs reads₀ writes₀ sources₀ seen₀ targets₀ written₀ view₀ versions text₀ at end₀ idle₀ status reads writes sources seen targets written view text end idle =
-    Turning (tables held timestamps order status₀ withdrawn lengths programs reads₀ writes₀ sources₀ seen₀ targets₀ written₀ view₀ versions) at text₀ (tables held timestamps order status withdrawn lengths programs reads writes sources seen targets written view versions) text end idle
+Inv-loop held timestamps order status₀ withdrawn lengths programs reads₀ writes₀ sources₀ seen₀ targets₀ written₀ view₀ versions cutoff kept text₀ at end₀ idle₀ status reads writes sources seen targets written view text end idle =
+    Turning (tables held timestamps order status₀ withdrawn lengths programs reads₀ writes₀ sources₀ seen₀ targets₀ written₀ view₀ versions cutoff kept) at text₀ (tables held timestamps order status withdrawn lengths programs reads writes sources seen targets written view versions cutoff kept) text end idle
 
 abbrev μ-loop : tie.MeasureT-loop
-μ-loop held timestamps order status₀ withdrawn lengths programs reads₀ writes₀ sources₀ seen₀ targets₀ written₀ view₀ versions text₀ at end₀ idle₀ status reads writes sources seen targets written view text end idle =
-    turnsLeft (tables held timestamps order status withdrawn lengths programs reads writes sources seen targets written view versions) idle
+μ-loop held timestamps order status₀ withdrawn lengths programs reads₀ writes₀ sources₀ seen₀ targets₀ written₀ view₀ versions cutoff kept text₀ at end₀ idle₀ status reads writes sources seen targets written view text end idle =
+    turnsLeft (tables held timestamps order status withdrawn lengths programs reads writes sources seen targets written view versions cutoff kept) idle
 
 abbrev lent : tie.Start Inv-loop μ-loop → Tables
 lent s =
     let a = s .args in
-    tables (a .held .now) (a .timestamps .now) (a .order .now) (a .status .now) (a .withdrawn .now) (a .lengths .now) (a .programs .now) (a .reads .now) (a .writes .now) (a .sources .now) (a .seen .now) (a .targets .now) (a .written .now) (a .view .now) (a .versions .now)
+    tables (a .held .now) (a .timestamps .now) (a .order .now) (a .status .now) (a .withdrawn .now) (a .lengths .now) (a .programs .now) (a .reads .now) (a .writes .now) (a .sources .now) (a .seen .now) (a .targets .now) (a .written .now) (a .view .now) (a .versions .now) (a .cutoff .now) (a .kept .now)
 
 -- the entry, from where the loop begins
 abbrev entry : tie.After-slice-known6 Inv-loop μ-loop → tie.Start Inv-loop μ-loop
-entry c = c .before .before .before .before .before .before .before .before .before .before .before .before .before
+entry c = c .before .before .before .before .before .before .before .before .before .before .before .before .before .before
 
 -- the loop's test, from the turn
 abbrev tested : tie.After-turn Inv-loop μ-loop → tie.In-loop Inv-loop μ-loop

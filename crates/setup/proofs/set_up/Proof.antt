@@ -12,10 +12,10 @@ use Rattle.setup.proofs.set_up.Tie as tie
 abbrev lent : tie.Start → Tables
 lent s =
     let a = s .args in
-    tables (a .held .now) (a .timestamps .now) (a .order .now) (a .status .now) (a .withdrawn .now) (a .lengths .now) (a .programs .now) (a .reads .now) (a .writes .now) (a .sources .now) (a .seen .now) (a .targets .now) (a .written .now) (a .view .now) (a .versions .now)
+    tables (a .held .now) (a .timestamps .now) (a .order .now) (a .status .now) (a .withdrawn .now) (a .lengths .now) (a .programs .now) (a .reads .now) (a .writes .now) (a .sources .now) (a .seen .now) (a .targets .now) (a .written .now) (a .view .now) (a .versions .now) (a .cutoff .now) (a .kept .now)
 
 abbrev entry : tie.After-lengths-fit → tie.Start
-entry c = c .before .before .before .before .before .before .before .before .before .before .before .before .before .before .before .before .before .before .before .before .before .before .before .before .before .before .before .before
+entry c = c .before .before .before .before .before .before .before .before .before .before .before .before .before .before .before .before .before .before .before .before .before .before .before .before .before .before .before .before .before .before .before
 
 returns : tie.Need-returns
 returns c = set-up-refused _ (lent (entry (c .before))) (sym (c .before .lengths-fit .ensures) ∙ not-true _ (c .if1 .taken))
@@ -30,9 +30,11 @@ tested c = c .before .before
 -- the places after each table is cleared, from the last
 pub set-up-spec : {M : Type 1} → statement M
 set-up-spec =
-    let versions : tie.After-slice-known24 → tie.After-clear-u1610 = λ c. c .before .before in
-    let view : tie.After-slice-known24 → tie.After-fill-start = λ c. versions c .before .before .before in
-    let filled : tie.After-slice-known24 → tie.After-fill-start-arg = λ c. view c .before in
+    let kept : tie.After-kept → tie.After-fill-start2 = λ c. c .before in
+    let cutoff : tie.After-kept → tie.After-clear-u642 = λ c. kept c .before .before .before .before in
+    let versions : tie.After-kept → tie.After-clear-u1610 = λ c. cutoff c .before .before .before .before in
+    let view : tie.After-kept → tie.After-fill-start = λ c. versions c .before .before .before in
+    let filled : tie.After-kept → tie.After-fill-start-arg = λ c. view c .before in
     let written : tie.After-fill-start-arg → tie.After-clear-i322 = λ c. c .before .before in
     let targets : tie.After-fill-start-arg → tie.After-clear-u169 = λ c. written c .before .before .before .before in
     let seen : tie.After-fill-start-arg → tie.After-clear-i32 = λ c. targets c .before .before .before in
@@ -64,6 +66,8 @@ set-up-spec =
     (λ c. refl)
     (λ c. refl)
     (λ c. refl)
+    (λ c. refl)
+    (λ c. refl)
     returns
     (λ c κs. tt)
     (λ c κs. tt)
@@ -80,6 +84,8 @@ set-up-spec =
     (λ c κs. tt)
     (λ c κs. lengths-of _ _ (right (tested (held c))) .view)
     (λ c κs. tt)
+    (λ c κs. tt)
+    (λ c κs. let v : tie.After-fill-start-arg = c .before .before .before .before .before .before .before .before .before .before .before in lengths-of _ _ (right (tested (held v))) .kept)
     (λ c. held (filled c) .clear-u16 .kept .0)
     (λ c. timestamps (filled c) .clear-u64 .kept .0)
     (λ c. order (filled c) .clear-u162 .kept .0)
@@ -95,7 +101,9 @@ set-up-spec =
     (λ c. written (filled c) .clear-i322 .kept .0)
     (λ c. view c .fill-start .kept .0)
     (λ c. versions c .clear-u1610 .kept .0)
+    (λ c. cutoff c .clear-u642 .kept .0)
+    (λ c. kept c .fill-start2 .kept .0)
     (λ c.
     let v = filled c in
     all-cleared _ _ (right (tested (held v)))
-    (record { held = held v .clear-u16 .ensures; timestamps = timestamps v .clear-u64 .ensures; order = order v .clear-u162 .ensures; status = status v .clear-u163 .ensures; withdrawn = withdrawn v .clear-u164 .ensures; lengths = lengths v .clear-u165 .ensures; programs = programs v .clear-u8 .ensures; reads = reads v .clear-u166 .ensures; writes = writes v .clear-u167 .ensures; sources = sources v .clear-u168 .ensures; seen = seen v .clear-i32 .ensures; targets = targets v .clear-u169 .ensures; written = written v .clear-i322 .ensures; view = view c .fill-start .ensures; versions = versions c .clear-u1610 .ensures })))
+    (record { held = held v .clear-u16 .ensures; timestamps = timestamps v .clear-u64 .ensures; order = order v .clear-u162 .ensures; status = status v .clear-u163 .ensures; withdrawn = withdrawn v .clear-u164 .ensures; lengths = lengths v .clear-u165 .ensures; programs = programs v .clear-u8 .ensures; reads = reads v .clear-u166 .ensures; writes = writes v .clear-u167 .ensures; sources = sources v .clear-u168 .ensures; seen = seen v .clear-i32 .ensures; targets = targets v .clear-u169 .ensures; written = written v .clear-i322 .ensures; view = view c .fill-start .ensures; versions = versions c .clear-u1610 .ensures; cutoff = cutoff c .clear-u642 .ensures; kept = kept c .fill-start2 .ensures })))

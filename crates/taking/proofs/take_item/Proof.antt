@@ -3,13 +3,12 @@ use mathlib.Core.Path.{refl, sym, _∙_}
 use native.Mathlib.Omega.{arith}
 use lib.ListN.{length-set}
 use Rattle.machine.specs.Instruction.{code}
-use Rattle.model.specs.Tables.{Tables, withTaking}
-use Rattle.model.specs.Package.{taking}
+use Rattle.model.specs.Tables.{Tables, cutoffIn}
 use Rattle.model.proofs.Form.{facts}
 use Rattle.search.proofs.Model.{placed}
-use Rattle.tables.proofs.Parts.{item-replied}
-use Rattle.taking.proofs.Answers.{Acceptable, acceptable, refused}
-use Rattle.taking.proofs.Model.{AtRank, HeldAt, Room, place-held, room-left, held-replied, full-replied, done-replied}
+use Rattle.taking.specs.Taking.{withLent}
+use Rattle.taking.proofs.Answers.{Acceptable, acceptable}
+use Rattle.taking.proofs.Model.{AtRank, HeldAt, Room, refused-replied, place-held, room-left, held-replied, full-replied, done-replied}
 use Rattle.taking.proofs.take_item.Statement.{statement}
 use Rattle.taking.proofs.take_item.Tie as tie
 
@@ -17,7 +16,7 @@ use Rattle.taking.proofs.take_item.Tie as tie
 abbrev lent : tie.Start → Tables → Tables
 lent s T =
     let a = s .args in
-    withTaking T (a .held .now) (a .timestamps .now) (a .order .now) (a .lengths .now) (a .programs .now) (a .versions .now)
+    withLent T (a .held .now) (a .timestamps .now) (a .order .now) (a .lengths .now) (a .programs .now) (a .versions .now) (a .cutoff .now)
 
 abbrev whole : tie.Start → Tables
 whole s = lent s (s .pre .others)
@@ -25,7 +24,7 @@ whole s = lent s (s .pre .others)
 -- ---- the places of the code, from each the one before
 
 abbrev entry : tie.After-refusal-of → tie.Start
-entry c = c .before .before .before .before .before .before .before .before
+entry c = c .before .before .before .before .before .before .before .before .before .before
 
 abbrev passed : tie.After-held-count → tie.Else1
 passed c = c .before .before
@@ -53,10 +52,10 @@ start c = entry (passed (counted c) .before)
 
 -- ---- what the tests and the search tell
 
-fits : (c : tie.After-rank) → Acceptable (start c .args .timestamp) (code (start c .args .version) (start c .args .program .now))
+fits : (c : tie.After-rank) → Acceptable (cutoffIn (whole (start c))) (start c .args .timestamp) (code (start c .args .version) (start c .args .program .now))
 fits c =
     let u = passed (counted c) in
-    acceptable _ _ (sym (u .before .refusal-of .ensures) ∙ u .if1 .left)
+    acceptable _ _ _ (sym (u .before .refusal-of .ensures) ∙ u .if1 .left)
 
 at-rank : (c : tie.After-rank) (T : Tables) → AtRank (lent (start c) T) (start c .args .timestamp) (counted c .held-count .result) (c .rank .result)
 at-rank c T = record { counted = counted c .held-count .ensures; ranked = c .rank .ensures }
@@ -90,7 +89,7 @@ stamped-at-requires c κs =
 returns : tie.Need-returns
 returns c =
     let a = entry (c .before) .args in
-    record { answered = λ T g. item-replied (taking (a .timestamp) (code (a .version) (a .program .now))) g (refused _ _ _ _ (c .before .refusal-of .ensures) (c .if1 .taken)) refl }
+    record { answered = λ T g. refused-replied g (a .timestamp) (code (a .version) (a .program .now)) (c .before .refusal-of .ensures) (c .if1 .taken) }
 
 returns-2 : tie.Need-returns-2
 returns-2 c =
@@ -118,6 +117,7 @@ pub take-item-spec : {M : Type 1} → statement M
 take-item-spec =
     tie.close
     (tie.spec
+    (λ c. omega (arith, facts (c .before .before .before .before .before .before .before .before .before .pre .formed) .sizes .cutoff))
     (λ c κs. tt)
     returns
     (λ c κs. facts (entry (c .before .before) .pre .formed) .sizes .held)

@@ -9,7 +9,7 @@ use Rattle.turns.proofs.turn_at.Tie as tie
 
 -- from a call, or the loop, to what stood before it
 abbrev before-decide : tie.After-decide → tie.Start
-before-decide c = c .before .before .before .before .before .before .before .before .before .before .before .before .before .before .before .before .before .before .before .before .before .before .before .before .before .before
+before-decide c = c .before .before .before .before .before .before .before .before .before .before .before .before .before .before .before .before .before .before .before .before .before .before .before .before .before .before .before
 
 abbrev before-stands : tie.After-stands → tie.After-decide
 before-stands c = c .before
@@ -28,7 +28,7 @@ called c = c .before .before .before .before .before .before .before .before .be
 
 decide-requires : tie.Need-decide-requires
 decide-requires c κs =
-    let start = c .before .before .before .before .before .before .before .before .before .before .before .before .before .before .before .before .before .before .before .before .before .before .before .before .before in
+    let start = c .before .before .before .before .before .before .before .before .before .before .before .before .before .before .before .before .before .before .before .before .before .before .before .before .before .before in
     decision (start .pre)
 
 carry-place-requires : tie.Need-carry-place-requires
@@ -76,13 +76,13 @@ pub turn-at-spec : {M : Type 1} → statement M
 turn-at-spec =
     tie.close
     (tie.spec
-    (λ c. let z = turn-slots (c .before .before .before .before .before .before .before .before .before .before .before .before .pre) in omega (arith, z .position, z .few))
-    (λ c. turn-slots (c .before .before .before .before .before .before .before .before .before .before .before .before .before .pre) .order)
-    (λ c. omega (arith, turn-slots (c .before .before .before .before .before .before .before .before .before .before .before .before .before .pre) .place))
-    (λ c. omega (arith, turn-slots (c .before .before .before .before .before .before .before .before .before .before .before .before .before .pre) .place))
-    (λ c. turn-slots (c .before .before .before .before .before .before .before .before .before .before .before .before .before .before .pre) .timestamps)
+    (λ c. let z = turn-slots (c .before .before .before .before .before .before .before .before .before .before .before .before .before .pre) in omega (arith, z .position, z .few))
+    (λ c. turn-slots (c .before .before .before .before .before .before .before .before .before .before .before .before .before .before .pre) .order)
     (λ c. omega (arith, turn-slots (c .before .before .before .before .before .before .before .before .before .before .before .before .before .before .pre) .place))
-    (λ c. turn-slots (c .before .before .before .before .before .before .before .before .before .before .before .before .before .before .before .pre) .versions)
+    (λ c. omega (arith, turn-slots (c .before .before .before .before .before .before .before .before .before .before .before .before .before .before .pre) .place))
+    (λ c. turn-slots (c .before .before .before .before .before .before .before .before .before .before .before .before .before .before .before .pre) .timestamps)
+    (λ c. omega (arith, turn-slots (c .before .before .before .before .before .before .before .before .before .before .before .before .before .before .before .pre) .place))
+    (λ c. turn-slots (c .before .before .before .before .before .before .before .before .before .before .before .before .before .before .before .before .pre) .versions)
     decide-requires
     (λ c κs. search needs)
     carry-place-requires

@@ -13,14 +13,14 @@ use Rattle.turns.proofs.turn_once.Tie as tie
 
 -- from a call, or the loop, to what stood before it
 abbrev before-waiting : tie.After-waiting → tie.Start
-before-waiting c = c .before .before .before .before .before .before .before .before .before .before .before .before .before .before .before
+before-waiting c = c .before .before .before .before .before .before .before .before .before .before .before .before .before .before .before .before
 
 abbrev called : tie.After-view → tie.After-turn-at
 called c = c .before .before .before .before .before .before .before .before .before .before .before .before .before
 
 waiting-requires : tie.Need-waiting-requires
 waiting-requires c κs =
-    let start = c .before .before .before .before .before .before .before .before .before .before .before .before .before .before in
+    let start = c .before .before .before .before .before .before .before .before .before .before .before .before .before .before .before in
     placed-status (start .pre)
 
 turn-at-requires : tie.Need-turn-at-requires
@@ -44,8 +44,8 @@ pub turn-once-spec : {M : Type 1} → statement M
 turn-once-spec =
     tie.close
     (tie.spec
-    (λ c. omega (arith, facts (c .before .before .before .before .before .before .before .before .before .before .before .before .before .pre) .sizes .held))
-    (λ c. omega (arith, c .shared-slice-known8 .given 0))
+    (λ c. omega (arith, facts (c .before .before .before .before .before .before .before .before .before .before .before .before .before .before .pre) .sizes .held))
+    (λ c. omega (arith, c .shared-slice-known9 .given 0))
     waiting-requires
     (λ c. search needs)
     turn-at-requires

@@ -9,11 +9,11 @@ use Rattle.values.proofs.know_list.Statement.{statement}
 use Rattle.values.proofs.know_list.Tie as tie
 
 abbrev Inv-loop : tie.InvT-loop
-Inv-loop settings k order writes targets written before₀ after₀ known₀ i₀ before after known i =
-    KnownTo settings i (valuesBelow order writes targets written k) known₀ known before after
+Inv-loop settings k order writes targets written kept before₀ after₀ known₀ i₀ before after known i =
+    KnownTo settings i (valuesBelow order writes targets written kept k) known₀ known before after
 
 abbrev μ-loop : tie.MeasureT-loop
-μ-loop settings k order writes targets written before₀ after₀ known₀ i₀ before after known i = length settings - i
+μ-loop settings k order writes targets written kept before₀ after₀ known₀ i₀ before after known i = length settings - i
 
 abbrev entry : tie.At-loop Inv-loop μ-loop → tie.Start Inv-loop μ-loop
 entry c = c .before .before .before .before .before
@@ -22,7 +22,7 @@ value-of-requires : tie.Need-value-of-requires Inv-loop μ-loop
 value-of-requires c κs =
     let l = c .before .before .before .before .before in
     let p = entry l .pre in
-    (p .0 .below (l .loop .i) (omega arith), record { placed = p .1 .placed; listed = p .1 .listed; right = l .loop .inv .looked .right })
+    (p .0 .below (l .loop .i) (omega arith), record { placed = p .1 .placed; listed = p .1 .listed; kept-sized = p .1 .kept-sized; right = l .loop .inv .looked .right })
 
 loop-again : tie.Need-loop-again Inv-loop μ-loop
 loop-again c =

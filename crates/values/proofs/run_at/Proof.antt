@@ -18,12 +18,12 @@ use Rattle.values.proofs.run_at.Statement.{statement}
 use Rattle.values.proofs.run_at.Tie as tie
 
 abbrev Inv-loop : tie.InvT-loop
-Inv-loop version program k order writes targets written before₀ after₀ known₀ sources₀ seen₀ targets₀ written₀ count run₀ place₀ before after known sources seen new-targets new-written run place =
-    let env = valuesBelow order writes targets written k in
+Inv-loop version program k order writes targets written kept before₀ after₀ known₀ sources₀ seen₀ targets₀ written₀ count run₀ place₀ before after known sources seen new-targets new-written run place =
+    let env = valuesBelow order writes targets written kept k in
     Reached (onSettings env) (code version program) run (lists sources seen new-targets new-written) × (run .place ≡ place) × Looked env known₀ known before after
 
 abbrev μ-loop : tie.MeasureT-loop
-μ-loop version program k order writes targets written before₀ after₀ known₀ sources₀ seen₀ targets₀ written₀ count run₀ place₀ before after known sources seen new-targets new-written run place =
+μ-loop version program k order writes targets written kept before₀ after₀ known₀ sources₀ seen₀ targets₀ written₀ count run₀ place₀ before after known sources seen new-targets new-written run place =
     count - place
 
 abbrev entry : tie.At-loop Inv-loop μ-loop → tie.Start Inv-loop μ-loop
@@ -31,7 +31,7 @@ entry c = c .before .before .before .before .before .before
 
 -- the values as of the position
 abbrev upto : tie.Start Inv-loop μ-loop → Environment
-upto c = let a = c .args in valuesBelow (a .order .now) (a .writes .now) (a .targets .now) (a .written .now) (a .k)
+upto c = let a = c .args in valuesBelow (a .order .now) (a .writes .now) (a .targets .now) (a .written .now) (a .kept .now) (a .k)
 
 loop-holds : tie.Need-loop-holds Inv-loop μ-loop
 loop-holds c =
@@ -62,7 +62,7 @@ wanted-value-requires : tie.Need-wanted-value-requires Inv-loop μ-loop
 wanted-value-requires c κs =
     let l = head (c .before .before .before .before) in
     let p = entry l .pre .3 in
-    record { placed = p .placed; listed = p .listed; right = l .loop .inv .2 .right }
+    record { placed = p .placed; listed = p .listed; kept-sized = p .kept-sized; right = l .loop .inv .2 .right }
 
 value-is : (c : tie.After-wanted-value Inv-loop μ-loop) → read (c .wanted-value .result) ≡ onSettings (upto (entry (head (effected c)))) (wanted (effected c .effect .result))
 value-is c =

@@ -13,19 +13,19 @@ use Rattle.values.proofs.seen_hold.Statement.{statement}
 use Rattle.values.proofs.seen_hold.Tie as tie
 
 abbrev Inv-loop : tie.InvT-loop
-Inv-loop sources seen k order writes targets written before₀ after₀ known₀ i₀ before after known i =
-    let env = valuesBelow order writes targets written k in
+Inv-loop sources seen k order writes targets written kept before₀ after₀ known₀ i₀ before after known i =
+    let env = valuesBelow order writes targets written kept k in
     (i ≤ length sources) × (restHold sources seen env i ≡ allHold (entries (length sources) sources seen) env) × Looked env known₀ known before after
 
 abbrev μ-loop : tie.MeasureT-loop
-μ-loop sources seen k order writes targets written before₀ after₀ known₀ i₀ before after known i = length sources - i
+μ-loop sources seen k order writes targets written kept before₀ after₀ known₀ i₀ before after known i = length sources - i
 
 abbrev entry : tie.At-loop Inv-loop μ-loop → tie.Start Inv-loop μ-loop
 entry c = c .before .before .before .before .before
 
 -- the values as of the position
 abbrev upto : tie.Start Inv-loop μ-loop → Environment
-upto c = let a = c .args in valuesBelow (a .order .now) (a .writes .now) (a .targets .now) (a .written .now) (a .k)
+upto c = let a = c .args in valuesBelow (a .order .now) (a .writes .now) (a .targets .now) (a .written .now) (a .kept .now) (a .k)
 
 loop-holds : tie.Need-loop-holds Inv-loop μ-loop
 loop-holds c =
@@ -36,7 +36,7 @@ value-of-requires : tie.Need-value-of-requires Inv-loop μ-loop
 value-of-requires c κs =
     let l = c .before .before .before .before .before in
     let p = entry l .pre in
-    (p .1 .below (l .loop .i) (omega arith), record { placed = p .2 .placed; listed = p .2 .listed; right = l .loop .inv .2 .right })
+    (p .1 .below (l .loop .i) (omega arith), record { placed = p .2 .placed; listed = p .2 .listed; kept-sized = p .2 .kept-sized; right = l .loop .inv .2 .right })
 
 abbrev head : tie.After-value-of Inv-loop μ-loop → tie.At-loop Inv-loop μ-loop
 head c = c .before .before .before .before .before .before

@@ -21,8 +21,8 @@ returns c =
 returns-2 : tie.Need-returns-2
 returns-2 c =
     let r = c .before .before .before in
-    toZ-ofZ (sfits-of (c .start-value .ok)) ∙ c .start-value .ensures ∙ found-none (sought (r .before .before .before .before)) (r .previous-write .ensures) (c .before .enum-told .given .1) _
+    toZ-ofZ (sfits-of (c .result .given)) ∙ found-none (sought (r .before .before .before .before)) (r .previous-write .ensures) (c .before .enum-told .given .1) _
 
 pub value-below-spec : {M : Type 1} → statement M
 value-below-spec =
-    tie.close (tie.spec (λ c κs. search needs) (λ c. search needs) (λ c. search needs) (λ c κs. tt) returns returns-2)
+    tie.close (tie.spec (λ c κs. search needs) (λ c. search needs) (λ c. search needs) (λ c. search needs) (λ c. search needs) returns returns-2)

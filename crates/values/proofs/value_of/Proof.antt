@@ -1,5 +1,6 @@
 -- `values::value_of` meets its contract: a known value is right, and one that is found is noted. Assumes nothing.
 use mathlib.Core.Path.{_∙_}
+use native.Mathlib.Omega.{arith}
 use borrow.Author.Needs.{needs, sfits-of}
 use mir.Facts.{toZ-ofZ}
 use Rattle.values.proofs.Known.{looked-none, noted, looked-one}
@@ -30,7 +31,7 @@ value-of-spec =
     (λ c. search needs)
     (λ c. search needs)
     returns
-    (λ c κs. let p = entry (c .before) .pre .1 in (p .placed, p .listed))
+    (λ c κs. let p = entry (c .before) .pre .1 in (p .placed, p .listed, omega (arith, entry (c .before) .pre .0, p .kept-sized)))
     (λ c. search needs)
     (λ c. search needs)
     (λ c. search needs)

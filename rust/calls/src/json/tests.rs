@@ -19,6 +19,8 @@ fn short() -> Tables {
         written_values: vec![-10],
         view: vec![11],
         version: vec![12, 13],
+        cutoff: vec![u64::MAX, 14],
+        kept: vec![-15, 16],
     }
 }
 
@@ -28,7 +30,8 @@ const SHORT: &str = concat!(
     r#""withdrawn": [4], "length": [5], "programs": [0, 255], "read_count": [6], "#,
     r#""write_count": [0, 65535], "read_settings": [7, 8, 9], "#,
     r#""seen_values": [-2147483648, -1, 0, 2147483647], "write_settings": [], "#,
-    r#""written_values": [-10], "view": [11], "version": [12, 13]}"#,
+    r#""written_values": [-10], "view": [11], "version": [12, 13], "#,
+    r#""cutoff": [18446744073709551615, 14], "kept": [-15, 16]}"#,
 );
 
 /// [`SHORT`] with another text for one that comes once in it.
@@ -144,7 +147,7 @@ fn every_key_may_be_missing() {
 #[test]
 fn every_key_may_come_twice() {
     for key in KEYS {
-        let text = altered("13]}", &format!("13], \"{key}\": []}}"));
+        let text = altered("16]}", &format!("16], \"{key}\": []}}"));
         assert_eq!(error(&text), Error::Twice(key), "{text}");
     }
     let error = Error::Twice("view");
@@ -166,8 +169,8 @@ fn a_key_may_be_unknown() {
         assert_eq!(error(&text), Error::Unknown(key.to_string()), "{text}");
         let message = format!("the key {shown} is unknown");
         assert_eq!(error(&text).to_string(), message);
-        // Also where all fifteen are there, and whatever its value is.
-        let text = altered("13]}", &format!("13], \"{key}\": true}}"));
+        // Also where all seventeen are there, and whatever its value is.
+        let text = altered("16]}", &format!("16], \"{key}\": true}}"));
         assert_eq!(error(&text), Error::Unknown(key.to_string()), "{text}");
     }
     let text = [b"{\"\xFF\": []}".as_slice()].concat();
@@ -189,6 +192,7 @@ fn a_number_may_not_fit() {
         ("16 bits", "write_settings", &["-1", "65536"]),
         ("16 bits", "version", &["-1", "65536"]),
         ("64 bits", "timestamps", &["-1", "18446744073709551616"]),
+        ("64 bits", "cutoff", &["-1", "18446744073709551616"]),
         (
             "signed 32 bits",
             "seen_values",
@@ -200,6 +204,7 @@ fn a_number_may_not_fit() {
             &["-2147483649", "2147483648"],
         ),
         ("signed 32 bits", "view", &["-2147483649", "2147483648"]),
+        ("signed 32 bits", "kept", &["-2147483649", "2147483648"]),
     ];
     for (width, table, numbers) in bits {
         for &number in numbers {

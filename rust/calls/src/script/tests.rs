@@ -51,6 +51,9 @@ fn every_kind_of_line_is_read() {
         let totals = Some(length);
         assert_read(line, Call::Drain { totals });
     }
+    for (line, timestamp) in [("cutoff 20", 20), ("cutoff 18446744073709551615", u64::MAX)] {
+        assert_read(line, Call::Cutoff { timestamp });
+    }
     assert_read("current 34", Call::CurrentValue { setting: 34 });
     assert_read(
         "value_as_of 15 34",
@@ -200,6 +203,7 @@ fn every_argument_may_be_missing() {
         ("take_in 20", "HEX"),
         ("take_in 20 \r", "HEX"),
         ("withdraw", "TS"),
+        ("cutoff", "TS"),
         ("current", "S"),
         ("value_as_of", "TS"),
         ("value_as_of 15", "S"),
@@ -222,6 +226,7 @@ fn a_word_may_be_too_many() {
         "withdraw 20 x",
         "turn x",
         "drain len5 x",
+        "cutoff 20 x",
         "current 34 x",
         "value_as_of 15 34 x",
         "standing 20 x",
@@ -250,6 +255,7 @@ fn assert_numbers_refused(word: &str, error: impl Fn(&'static str) -> Error) {
         ("TS", format!("take_in {word} -")),
         ("VERSION", format!("take_in 20 - {word}")),
         ("TS", format!("withdraw {word}")),
+        ("TS", format!("cutoff {word}")),
         ("TS", format!("value_as_of {word} 34")),
         ("TS", format!("standing {word}")),
         ("S", format!("current {word}")),

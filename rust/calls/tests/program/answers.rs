@@ -162,6 +162,8 @@ fn tables_after_a_change() {
         ("written_values", list(64, &[(0, 1)])),
         ("view", settings(&[])),
         ("version", list(2, &[(0, 1)])),
+        ("cutoff", list(1, &[])),
+        ("kept", settings(&[])),
     ];
     let expected = expected.map(|(key, list)| format!("\"{key}\": {list}"));
     let drained = r#"done by console {"40": 1}"#;
@@ -240,6 +242,21 @@ fn every_refusal() {
             ),
             // Two changes and a withdrawal.
             ("package_out 37", "refused 12"),
+            ("cutoff 0", "refused 4"),
+            ("cutoff 18446744073709551615", "refused 4"),
+            ("cutoff 6", "refused 15"),
+            ("cutoff 5", "done"),
+            ("cutoff 4", "refused 14"),
+            ("cutoff 0", "refused 4"),
+            ("withdraw 0", "refused 4"),
+            ("take_in 4 00 2", "refused 14"),
+            ("withdraw 4", "refused 14"),
+            ("value_as_of 4 1024", "refused 14"),
+            ("standing 4", "refused 14"),
+            (
+                &format!("take_in_package {}", package(&[(4, 0, wrong), (4, 1, "")])),
+                "done answers [14, 14]",
+            ),
         ],
     );
     write_file(
@@ -292,6 +309,69 @@ fn changes_of_both_versions() {
             ("package_out 182", &format!("length 182 {written}")),
         ],
     );
+}
+
+/// 30, which arrived last, stays; what 10 and 20 leave is kept, and their places take new changes.
+#[test]
+fn a_cutoff() {
+    let twice = set(50, 1) + &set(50, 2);
+    let changes = [
+        take_in(10, set(34, 7)),
+        take_in_version(20, twice, 1),
+        take_in(30, copy(34, 51)),
+    ];
+    let kept = settings(&[(34, 7), (50, 2)]);
+    assert_answers(
+        &["--n", "3"],
+        &[
+            (changes[0].as_str(), "done"),
+            (&changes[1], "done"),
+            (&changes[2], "done"),
+            ("take_in 40 -", "refused 9"),
+            ("cutoff 30", "refused 15"),
+            ("drain", r#"done by console {"40": 1, "80": 1, "120": 1}"#),
+            ("cutoff 30", "done"),
+            (&take_in(29, set(34, 9)), "refused 14"),
+            (&take_in(40, copy(50, 52)), "done"),
+            (&take_in(35, set(34, 8)), "done"),
+            ("take_in 50 -", "refused 9"),
+            ("value_as_of 30 50", "value 2"),
+            ("drain", r#"done by console {"140": 1, "160": 1}"#),
+            (
+                "plain_run",
+                &format!("done {}", settings(&[(34, 8), (50, 2), (51, 7), (52, 2)])),
+            ),
+            ("current 52", "value 2"),
+            ("withdraw 35", "done"),
+            ("cutoff 30", "done"),
+            ("cutoff 36", "refused 15"),
+            ("turn", "cleared 35"),
+            ("current 34", "value 7"),
+            ("cutoff 50", "done"),
+            ("cutoff 49", "refused 14"),
+            ("standing 30", "refused 14"),
+        ],
+    );
+
+    let script = [&changes.join("\n"), "drain", "cutoff 30", "tables"].join("\n");
+    let printed = printed(&["--n", "3"], &script);
+    let tables = printed.lines().last().expect("the tables are printed");
+    let program = [11, 0, 0, 0, 34, 0, 0, 0, 13, 0, 0, 0, 51];
+    let program: Vec<(usize, i32)> = program.into_iter().enumerate().collect();
+    for (key, list) in [
+        ("held", list(1, &[(0, 1)])),
+        ("timestamps", list(3, &[(0, 30)])),
+        ("order", list(3, &[])),
+        ("programs", list(3 * 256, &program)),
+        ("written_values", list(3 * 32, &[(0, 7)])),
+        ("view", settings(&[(34, 7), (50, 2), (51, 7)])),
+        ("version", list(3, &[])),
+        ("cutoff", list(1, &[(0, 30)])),
+        ("kept", kept),
+    ] {
+        let member = format!("\"{key}\": {list}");
+        assert!(tables.contains(&member), "{member} in {tables}");
+    }
 }
 
 /// The lent answer slice must have 512 bytes, whatever the package is.

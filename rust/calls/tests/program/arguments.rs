@@ -48,6 +48,7 @@ fn another_capacity_is_refused_by_every_call() {
         ("turn", "refused 1"),
         ("drain", "refused 1"),
         ("drain len5", "refused 1"),
+        ("cutoff 10", "refused 1"),
         ("current 34", "refused 1"),
         ("value_as_of 10 34", "refused 1"),
         ("standing 10", "refused 1"),
@@ -67,6 +68,7 @@ fn another_capacity_is_refused_by_every_call() {
 fn tables_above_the_highest_capacity() {
     let zeros = |n| Tables {
         view: vec![0; 1024],
+        kept: vec![0; 1024],
         ..Tables::new(n)
     };
     let above = outside_tables::line(&zeros(4_097)) + "\n";
@@ -108,6 +110,7 @@ fn help() {
             "withdraw TS",
             "turn",
             "drain [lenL]",
+            "cutoff TS",
             "current S",
             "value_as_of TS S",
             "standing TS",

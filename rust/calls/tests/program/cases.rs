@@ -1,6 +1,7 @@
 //! The cases of document 01, "Cases to know", with the start values (R-1), the faults shown (R-2) and
 //! the totals for each console (R-5) of document 02, and the example scripts, of which one fills a
-//! cabinet from its neighbour (R-3) and one has programs of both versions (R-6).
+//! cabinet from its neighbour (R-3), one has programs of both versions (R-6) and one sets a cutoff
+//! (R-7).
 
 use crate::programs::{
     add, constant, copy, instruction, package, package_of_versions, read, set, take, take_in, write,
@@ -395,4 +396,50 @@ length 254 {package}
     assert_example("versions.calls", &expected);
     let of_30 = package_of_versions(&[(30, 0, 1, &program)]);
     assert_taken("versions.calls", &of_30);
+}
+
+/// There is room for four changes.
+#[test]
+fn example_of_a_cutoff() {
+    let expected = r#"done
+done
+done
+done
+done
+done by console {"40": 1, "80": 1, "120": 1, "160": 1}
+done
+refused 9
+refused 15
+done by console {"122": 1, "160": 1}
+done
+done
+refused 14
+refused 14
+value 400
+done by console {"200": 1}
+value 100
+value 400
+value 400
+done
+done by console {"202": 1}
+value 400
+refused 14
+"#;
+    let script = example("cutoff.calls");
+    assert_eq!(printed(&["--n", "4", &script], ""), expected);
+    let script = fs::read_to_string(script).expect("the example is there");
+    let taken: Vec<&str> = script
+        .lines()
+        .filter(|line| line.starts_with("take_in "))
+        .collect();
+    let expected = [
+        take_in(10, set(36, 400)),
+        take_in(20, copy(36, 52)),
+        take_in(30, set(36, 250)),
+        take_in(40, copy(36, 68)),
+        take_in(50, set(36, 100)),
+        take_in(50, set(36, 100)),
+        take_in(15, set(36, 250)),
+    ];
+    assert_eq!(taken, expected);
 }

@@ -8,12 +8,13 @@ use calls::script::Call;
 use outside::tables::Tables;
 
 /// A call of each of those that are lent tables.
-const CALLS: [&str; 11] = [
+const CALLS: [&str; 12] = [
     "set_up",
     "take_in 10 -",
     "withdraw 10",
     "turn",
     "drain",
+    "cutoff 10",
     "current 34",
     "value_as_of 10 34",
     "standing 10",
@@ -23,7 +24,7 @@ const CALLS: [&str; 11] = [
 ];
 
 /// Every change to tables that gives one of them another length.
-const OTHER_LENGTHS: [fn(&mut Tables, Change); 15] = [
+const OTHER_LENGTHS: [fn(&mut Tables, Change); 17] = [
     |tables, change| change.make(&mut tables.held),
     |tables, change| change.make(&mut tables.timestamps),
     |tables, change| change.make(&mut tables.order),
@@ -39,6 +40,8 @@ const OTHER_LENGTHS: [fn(&mut Tables, Change); 15] = [
     |tables, change| change.make(&mut tables.written),
     |tables, change| change.make(&mut tables.view),
     |tables, change| change.make(&mut tables.versions),
+    |tables, change| change.make(&mut tables.cutoff),
+    |tables, change| change.make(&mut tables.kept),
 ];
 
 #[derive(Clone, Copy)]
@@ -89,7 +92,7 @@ fn a_table_of_another_length_is_refused_by_every_call() {
 
 #[test]
 fn tables_not_in_form_are_refused_by_every_call_but_set_up() {
-    let breaches: [fn(&mut Tables); 16] = [
+    let breaches: [fn(&mut Tables); 18] = [
         |tables| tables.held[0] = 1,
         |tables| tables.held[0] = u16::MAX,
         |tables| tables.timestamps[2] = u64::MAX,
@@ -107,6 +110,8 @@ fn tables_not_in_form_are_refused_by_every_call_but_set_up() {
         |tables| tables.versions[2] = 1,
         // Of a change with timestamp 10 and no instructions.
         |tables| (tables.held[0], tables.timestamps[0], tables.versions[0]) = (1, 10, 2),
+        |tables| (tables.held[0], tables.timestamps[0], tables.cutoff[0]) = (1, 10, 11),
+        |tables| tables.cutoff[0] = u64::MAX,
     ];
     let [set_up, others @ ..] = CALLS;
     for breach in breaches {
@@ -144,6 +149,30 @@ fn any_view_is_lent() {
     );
 }
 
+/// Kept values are not tested either, and what comes after begins from them.
+#[test]
+fn any_kept_values_are_lent() {
+    let mut tables = Tables::new(3);
+    tables.cutoff[0] = u64::MAX - 1;
+    tables.kept.fill(i32::MIN);
+    tables.kept[34] = i32::MAX;
+    write_file("kept.json", outside_tables::file(&tables));
+    let highest = u64::MAX - 1;
+    assert_answers(
+        &["--n", "3"],
+        &[
+            ("load kept.json", "done"),
+            ("current 34", "value 1"),
+            (&format!("value_as_of {highest} 34"), "value 2147483647"),
+            (&format!("value_as_of {highest} 35"), "value -2147483648"),
+            (&take_in(highest, copy(34, 50)), "done"),
+            ("turn", &format!("ran {highest}")),
+            ("current 50", "value 2147483647"),
+            (&format!("value_as_of {} 34", highest - 1), "refused 14"),
+        ],
+    );
+}
+
 /// The capacity stays what it was.
 #[test]
 fn tables_for_another_capacity_may_be_loaded() {
@@ -173,6 +202,9 @@ fn printed_tables_are_loaded_as_they_were() {
     let package = package_of_versions(&[(30, 0, 0, &reader), (40, 0, 1, &twice)]);
     let script = [
         "set_up",
+        &take_in(5, set(36, -7)),
+        "drain",
+        "cutoff 9",
         &format!("take_in_package {package}"),
         "drain",
         &take_in_version(u64::MAX - 1, copy(34, 51) + &copy(51, 52), 1),
@@ -191,6 +223,9 @@ fn printed_tables_are_loaded_as_they_were() {
         "turn",
         "plain_run",
         "standing 40",
+        "value_as_of 9 36",
+        "withdraw 8",
+        "cutoff 31",
         "package_out 300",
         "tables",
     ];
@@ -215,6 +250,8 @@ fn printed_tables_are_loaded_as_they_were() {
         "ran 18446744073709551614",
         "idle",
         "standing 1 1",
+        "value -7",
+        "refused 14",
     ] {
         assert!(expected.contains(&answer), "{answer}");
     }
@@ -262,7 +299,7 @@ fn nothing_is_loaded_in_part() {
     for contents in [
         whole.replace("\"view\"", "\"views\""),
         whole.replace("0]}", "0]"),
-        whole.replace("0]}", "65536]}"),
+        whole.replace("0]}", "2147483648]}"),
     ] {
         write_file("part.json", contents);
         let file = format!("{FOLDER}/part.json");

@@ -4,7 +4,7 @@
 use outside::tables::Tables;
 
 /// The keys, each with its list.
-fn lists(tables: &Tables) -> [(&'static str, Vec<String>); 15] {
+fn lists(tables: &Tables) -> [(&'static str, Vec<String>); 17] {
     fn list<T: ToString>(table: &[T]) -> Vec<String> {
         table.iter().map(T::to_string).collect()
     }
@@ -24,6 +24,8 @@ fn lists(tables: &Tables) -> [(&'static str, Vec<String>); 15] {
         ("written_values", list(&tables.written)),
         ("view", list(&tables.view)),
         ("version", list(&tables.versions)),
+        ("cutoff", list(&tables.cutoff)),
+        ("kept", list(&tables.kept)),
     ]
 }
 

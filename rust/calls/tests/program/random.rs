@@ -9,6 +9,7 @@ use comparison::generate::{packages, Random};
 use comparison::seeds::with_seeds;
 use outside::calls::{current_value, plain_run, set_up, standing, value_as_of, Refusal};
 use outside::checker::{drain, turn, Turned};
+use outside::cutoff::cutoff;
 use outside::intake::{take_in, withdraw, Taken};
 use outside::package::{entries, package_out, take_in_package};
 use outside::start::start_values;
@@ -128,6 +129,10 @@ impl Script {
                     line += &format!(" len{}", lent.len());
                 }
                 self.push(line, answer);
+            }
+            Call::Cutoff { timestamp } => {
+                let answer = cutoff(n, tables, timestamp).map(|()| "done".to_string());
+                self.push(format!("cutoff {timestamp}"), answer);
             }
         }
     }
@@ -287,6 +292,7 @@ fn lists_of_calls_have_the_outside_answers_and_tables() {
             "take_in done",
             "take_in held",
             "take_in refused 4",
+            "take_in refused 14",
             "take_in refused 6",
             "take_in refused 13",
             "take_in refused 7",
@@ -294,6 +300,7 @@ fn lists_of_calls_have_the_outside_answers_and_tables() {
             "take_in refused 9",
             "withdraw done",
             "withdraw refused 4",
+            "withdraw refused 14",
             "withdraw refused 10",
             "withdraw refused 11",
             "take_in_package done",
@@ -306,13 +313,19 @@ fn lists_of_calls_have_the_outside_answers_and_tables() {
             "turn faulted",
             "drain done",
             "drain refused 1",
+            "cutoff done",
+            "cutoff refused 4",
+            "cutoff refused 14",
+            "cutoff refused 15",
             "current value",
             "current refused 5",
             "value_as_of value",
             "value_as_of refused 4",
+            "value_as_of refused 14",
             "value_as_of refused 5",
             "standing standing",
             "standing refused 4",
+            "standing refused 14",
             "standing refused 10",
             "package_out length",
             "package_out refused 12",
@@ -343,7 +356,7 @@ fn alter<T: Clone>(random: &mut Random, table: &mut Vec<T>, any: impl Fn(u64) ->
 }
 
 fn alter_some_table(random: &mut Random, tables: &mut Tables) {
-    match random.below(15) {
+    match random.below(17) {
         0 => alter(random, &mut tables.held, |bits| bits as u16),
         1 => alter(random, &mut tables.timestamps, |bits| bits),
         2 => alter(random, &mut tables.order, |bits| bits as u16),
@@ -358,7 +371,9 @@ fn alter_some_table(random: &mut Random, tables: &mut Tables) {
         11 => alter(random, &mut tables.targets, |bits| bits as u16),
         12 => alter(random, &mut tables.written, |bits| bits as i32),
         13 => alter(random, &mut tables.view, |bits| bits as i32),
-        _ => alter(random, &mut tables.versions, |bits| bits as u16),
+        14 => alter(random, &mut tables.versions, |bits| bits as u16),
+        15 => alter(random, &mut tables.cutoff, |bits| bits),
+        _ => alter(random, &mut tables.kept, |bits| bits as i32),
     }
 }
 
@@ -396,6 +411,7 @@ fn calls_on_any_tables_have_the_outside_answers_and_tables() {
         "withdraw",
         "turn",
         "drain",
+        "cutoff",
         "current",
         "value_as_of",
         "standing",

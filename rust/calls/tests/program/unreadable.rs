@@ -30,12 +30,14 @@ fn lines_that_are_no_calls() {
     assert_unreadable("what", r#"there is no call "what""#);
     assert_unreadable("Turn", r#"there is no call "Turn""#);
     assert_unreadable("withdraw", "TS is missing");
+    assert_unreadable("cutoff", "TS is missing");
     assert_unreadable("take_in 10", "HEX is missing");
     assert_unreadable("current", "S is missing");
     assert_unreadable("package_out", "L is missing");
     assert_unreadable("load", "FILE is missing");
     assert_unreadable("turn 10", r#""10" is a word too many"#);
     assert_unreadable("take_in 10 - 1 1", r#""1" is a word too many"#);
+    assert_unreadable("cutoff 10 34", r#""34" is a word too many"#);
     assert_unreadable("turn # a comment", r##""#" is a word too many"##);
     assert_unreadable("load my tables", r#""tables" is a word too many"#);
     assert_unreadable(
@@ -192,6 +194,18 @@ fn files_that_hold_no_tables() {
         (
             altered("\"version\": [0]", "\"version\": [65536]"),
             r#"entry 0 of "version" does not fit 16 bits: "65536""#,
+        ),
+        (
+            altered("\"cutoff\": [0], ", ""),
+            r#"the key "cutoff" is missing"#,
+        ),
+        (
+            altered("\"cutoff\": [0]", "\"cutoff\": [18446744073709551616]"),
+            r#"entry 0 of "cutoff" does not fit 64 bits: "18446744073709551616""#,
+        ),
+        (
+            altered("\"kept\": [0", "\"kept\": [2147483648"),
+            r#"entry 0 of "kept" does not fit signed 32 bits: "2147483648""#,
         ),
         (
             altered("\"view\": [0", "\"view\": [-2147483649"),

@@ -6,9 +6,9 @@ use outside::package::{lay_out, Entry, ENTRY_BYTES, MAX_BYTES, MAX_ENTRIES};
 use outside::program::{Version, INSTRUCTION_BYTES, MAX_INSTRUCTIONS};
 use outside::tables::{Tables, INFINITY};
 
-/// Entries of a package that keeps the layout, for tables that hold these timestamps: many entries
-/// name the same timestamp.
-pub fn entries(random: &mut Random, held: &[u64]) -> Vec<Entry> {
+/// Entries of a package that keeps the layout, for tables that hold these timestamps and have this
+/// cutoff: many entries name the same timestamp, and most are not below the cutoff.
+pub fn entries(random: &mut Random, held: &[u64], cutoff: u64) -> Vec<Entry> {
     let count = match random.below(16) {
         0 => MAX_ENTRIES,
         1 => random.below(MAX_ENTRIES + 1),
@@ -18,13 +18,14 @@ pub fn entries(random: &mut Random, held: &[u64]) -> Vec<Entry> {
         0..24 => random.pick(&[2, 8, MAX_INSTRUCTIONS]),
         _ => 4,
     };
+    let lowest = cutoff.saturating_sub(1 + count as u64 / 4).max(1);
     let mut entries: Vec<Entry> = Vec::with_capacity(count);
     for _ in 0..count {
         let timestamp = match random.below(24) {
             0 => random.pick(&[0, INFINITY]),
             1 => random.bits(),
             2..8 if !held.is_empty() => random.pick(held),
-            _ => 1 + random.below(2 * count) as u64,
+            _ => lowest.saturating_add(random.below(2 * count) as u64),
         };
         entries.push(match random.below(12) {
             0..3 => Entry::Withdrawal { timestamp },

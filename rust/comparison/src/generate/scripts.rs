@@ -10,7 +10,6 @@ use outside::package::{lay_out, Entry, ANSWERS};
 use outside::program::{
     op, Access, Instruction, Version, INSTRUCTION_BYTES, MAX_INSTRUCTIONS, REGISTERS, SETTINGS,
 };
-use outside::start::settings_at_start;
 use outside::tables::{Status, Tables, INFINITY, LIST_ENTRIES, PROGRAM_BYTES};
 use std::collections::HashSet;
 use std::iter;
@@ -26,6 +25,9 @@ pub enum Call {
         program: Vec<u8>,
     },
     Withdraw {
+        timestamp: u64,
+    },
+    Cutoff {
         timestamp: u64,
     },
     /// `answers` is the lent slice.
@@ -72,8 +74,15 @@ impl Change {
 /// What the calls of a list are made of: few settings, few timestamps, and what was sent before.
 pub struct Source {
     settings: Settings,
+    /// By rising number, and how many of them from the cutoff on are sent: the others come where that
+    /// is higher.
     timestamps: Vec<u64>,
+    ahead: usize,
     sent: Vec<Change>,
+    /// One call in so many is a cutoff, or none.
+    cutoffs: Option<usize>,
+    /// That of the tables that the last call was for.
+    cutoff: u64,
 }
 
 /// The most blocks of a program that calls bring.
@@ -122,7 +131,7 @@ impl Source {
             },
             _ => Settings::new(random, count),
         };
-        let count = 2 * n as u64 + 4;
+        let count = 6 * n as u64 + 24;
         let (first, step) = random.pick(&[
             (1, 1),
             (250, 1),
@@ -136,7 +145,26 @@ impl Source {
         Self {
             settings,
             timestamps: (0..count).map(|index| first + step * index).collect(),
+            ahead: 2 * n + 4,
             sent: Vec::new(),
+            cutoffs: random.pick(&[None, Some(8), Some(16), Some(32)]),
+            cutoff: 0,
+        }
+    }
+
+    /// The same, without cutoffs among its calls.
+    pub fn without_cutoffs(self) -> Self {
+        Self {
+            cutoffs: None,
+            ..self
+        }
+    }
+
+    /// The same, with cutoffs among its calls.
+    pub fn with_cutoffs(self) -> Self {
+        Self {
+            cutoffs: self.cutoffs.or(Some(8)),
+            ..self
         }
     }
 
@@ -149,18 +177,44 @@ impl Source {
         }
     }
 
-    /// A timestamp to ask for or to withdraw: most often one that was sent, often the last.
+    /// A timestamp to ask for or to withdraw: most often one that was sent and is not below the
+    /// cutoff, often the last, and some next to the cutoff.
     pub fn timestamp(&self, random: &mut Random) -> u64 {
         match (random.below(16), self.sent.last()) {
             (0, _) => random.pick(&[0, INFINITY]),
-            (1 | 2, _) | (_, None) => random.pick(&self.timestamps),
+            (1, _) if self.cutoff > 0 => self.cutoff - 1 + random.below(3) as u64,
+            (1 | 2, _) | (_, None) => {
+                let (below, ahead) = self.about_cutoff();
+                random.pick(if ahead.is_empty() { below } else { ahead })
+            }
             (3..8, Some(last)) => last.timestamp,
-            _ => self.sent[random.below(self.sent.len())].timestamp,
+            _ => {
+                let mut pick = || self.sent[random.below(self.sent.len())].timestamp;
+                let mut timestamp = pick();
+                for _ in 0..3 {
+                    if timestamp < self.cutoff {
+                        timestamp = pick();
+                    }
+                }
+                timestamp
+            }
         }
+    }
+
+    /// The timestamps below the cutoff, and those from it on that are sent.
+    fn about_cutoff(&self) -> (&[u64], &[u64]) {
+        let stamps = &self.timestamps;
+        let (below, rest) = stamps.split_at(stamps.partition_point(|&stamp| stamp < self.cutoff));
+        (below, &rest[..rest.len().min(self.ahead)])
     }
 
     /// The next call on these tables, which must be in form.
     pub fn call(&mut self, random: &mut Random, tables: &Tables) -> Call {
+        self.cutoff = tables.cutoff();
+        if self.cutoffs.is_some_and(|calls| random.below(calls) == 0) {
+            let timestamp = self.new_cutoff(random, tables);
+            return Call::Cutoff { timestamp };
+        }
         let held = 0..tables.held_count();
         let waiting = held
             .clone()
@@ -206,6 +260,50 @@ impl Source {
         }
     }
 
+    /// A cutoff for these tables, which must be in form: most often one that drops a few changes, so
+    /// that timestamps are left for others.
+    fn new_cutoff(&self, random: &mut Random, tables: &Tables) -> u64 {
+        let cutoff = tables.cutoff();
+        let order = tables.order[..tables.held_count()].iter();
+        let places: Vec<usize> = order.map(|&place| usize::from(place)).collect();
+        let held: Vec<u64> = places
+            .iter()
+            .map(|&place| tables.timestamps[place])
+            .collect();
+        let waiting = |&place: &usize| tables.status(place) != Status::Valid;
+        let settled = places.iter().position(waiting).unwrap_or(places.len());
+        match (random.below(24), held.last()) {
+            (0, _) => random.pick(&[0, INFINITY]),
+            // A lower one, and the same.
+            (1 | 2, _) if cutoff > 1 => match random.below(2) {
+                0 => cutoff - 1,
+                _ => 1 + random.below(cutoff as usize - 1) as u64,
+            },
+            (3, _) => cutoff.max(1),
+            // One for which all go, or would.
+            (4, Some(highest)) => highest + 1,
+            // Any one.
+            (5, Some(_)) => random.pick(&held) + random.below(2) as u64,
+            // As many go as are settled, or would with the next one.
+            (6, Some(_)) if settled > 0 => held[settled - 1] + 1,
+            (7..10, Some(_)) if settled < held.len() => held[settled] + 1,
+            (_, Some(_)) => {
+                let gone = random.below(settled.min(4) + 1);
+                match (gone, held.get(gone)) {
+                    (0, _) => held[0],
+                    // Next to one that goes, or that of the next one, which stays.
+                    (_, Some(&next)) if random.below(2) == 0 => next,
+                    _ => held[gone - 1] + 1,
+                }
+            }
+            (_, None) => {
+                let (_, ahead) = self.about_cutoff();
+                let timestamp = ahead.get(random.below(3));
+                timestamp.copied().unwrap_or(cutoff.max(1))
+            }
+        }
+    }
+
     /// A change to take in: most often one that was not sent.
     fn change(&mut self, random: &mut Random) -> Change {
         let timestamp = self.timestamp(random);
@@ -238,16 +336,20 @@ impl Source {
         }
     }
 
-    /// A change that was not sent, or none where all timestamps were.
+    /// A change that was not sent, most often not below the cutoff, or none where there is none.
     pub fn new_change(&mut self, random: &mut Random) -> Option<Change> {
         let sent: HashSet<u64> = self.sent.iter().map(|change| change.timestamp).collect();
-        let unsent = self.timestamps.iter().copied();
-        let unsent: Vec<u64> = unsent
-            .filter(|timestamp| !sent.contains(timestamp))
-            .collect();
-        if unsent.is_empty() {
-            return None;
-        }
+        let (below, ahead) = self.about_cutoff();
+        let [below, ahead] = [below, ahead].map(|timestamps| {
+            let unsent = timestamps.iter().copied();
+            let unsent = unsent.filter(|timestamp| !sent.contains(timestamp));
+            unsent.collect::<Vec<u64>>()
+        });
+        let unsent = match random.below(16) {
+            0 if !below.is_empty() => below,
+            _ if ahead.is_empty() => return None,
+            _ => ahead,
+        };
         let timestamp = random.pick(&unsent);
         let change = self.stamped(random, timestamp);
         self.sent.push(change.clone());
@@ -496,6 +598,9 @@ impl Source {
         for value in &mut tables.view {
             *value = random.below(3) as i32;
         }
+        for value in &mut tables.kept {
+            *value = random.below(2) as i32;
+        }
         if shape.settled {
             settle(random, &mut tables);
         }
@@ -527,7 +632,7 @@ impl Source {
 
 /// Ties changes and the view to the write lists, as [`Shape::settled`] says.
 fn settle(random: &mut Random, tables: &mut Tables) {
-    let mut values = settings_at_start();
+    let mut values = tables.kept_settings();
     let mut last_invalid = Vec::new();
     for rank in 0..tables.held_count() {
         let place = usize::from(tables.order[rank]);

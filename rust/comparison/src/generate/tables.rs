@@ -50,6 +50,7 @@ pub fn in_form(random: &mut Random, n: usize, held: usize) -> Tables {
         }
     }
     tables.view.fill_with(|| number(random, &settings));
+    keep(random, &mut tables, &settings);
     tables
 }
 
@@ -75,7 +76,23 @@ pub fn in_form_with_full_lists(random: &mut Random, n: usize, held: usize) -> Ta
         }
     }
     tables.view.fill_with(|| number(random, &settings));
+    keep(random, &mut tables, &settings);
     tables
+}
+
+/// Sets the cutoff, most often to other than 0, and half of the time the kept values, to any values.
+fn keep(random: &mut Random, tables: &mut Tables, settings: &Settings) {
+    let held = &tables.timestamps[..tables.held_count()];
+    let highest = held.iter().copied().min().unwrap_or(INFINITY - 1);
+    tables.cutoff[0] = match random.below(4) {
+        0 => 0,
+        1 => highest,
+        2 => highest - random.below(3).min(highest as usize) as u64,
+        _ => random.below(highest as usize) as u64,
+    };
+    if random.below(2) == 0 {
+        tables.kept.fill_with(|| number(random, settings));
+    }
 }
 
 /// The settings that the changes of tables name: few, so that many changes name the same one, or
@@ -242,6 +259,8 @@ pub enum Table {
     Written,
     View,
     Versions,
+    Cutoff,
+    Kept,
 }
 
 /// The slots of a table.
@@ -254,7 +273,7 @@ enum Slots<'a> {
 
 impl Table {
     /// All tables.
-    pub const ALL: [Self; 15] = [
+    pub const ALL: [Self; 17] = [
         Self::Held,
         Self::Timestamps,
         Self::Order,
@@ -270,6 +289,8 @@ impl Table {
         Self::Written,
         Self::View,
         Self::Versions,
+        Self::Cutoff,
+        Self::Kept,
     ];
 
     fn slots(self, tables: &mut Tables) -> Slots<'_> {
@@ -289,6 +310,8 @@ impl Table {
             Self::Written => Slots::Values(&mut tables.written),
             Self::View => Slots::Values(&mut tables.view),
             Self::Versions => Slots::Numbers(&mut tables.versions),
+            Self::Cutoff => Slots::Stamps(&mut tables.cutoff),
+            Self::Kept => Slots::Values(&mut tables.kept),
         }
     }
 
@@ -377,6 +400,10 @@ pub enum Breach {
     TimestampInfinity,
     /// Two timestamps are equal. They are neighbours in the order.
     TimestampRepeated,
+    /// The cutoff is 2^64 − 1. Nothing is held.
+    CutoffInfinity,
+    /// Timestamps are below the cutoff: the lowest alone, some or all.
+    TimestampBelowCutoff,
     /// An entry of the order is no held place.
     OrderNoPlace,
     /// Two entries of the order are exchanged.
@@ -413,13 +440,15 @@ pub enum Breach {
 
 impl Breach {
     /// All breaches.
-    pub const ALL: [Self; 40] = [
+    pub const ALL: [Self; 42] = [
         Self::HeldAboveCapacity,
         Self::HeldTooMany,
         Self::HeldTooFew,
         Self::TimestampZero,
         Self::TimestampInfinity,
         Self::TimestampRepeated,
+        Self::CutoffInfinity,
+        Self::TimestampBelowCutoff,
         Self::OrderNoPlace,
         Self::OrderNotRising,
         Self::OrderRepeated,
@@ -467,6 +496,8 @@ impl Breach {
             Self::TimestampZero => {
                 index_below(random, held)?;
                 tables.timestamps[usize::from(tables.order[0])] = 0;
+                // It is below no cutoff.
+                tables.cutoff[0] = 0;
             }
             Self::TimestampInfinity => {
                 index_below(random, held)?;
@@ -476,6 +507,19 @@ impl Breach {
                 let rank = index_below(random, held.saturating_sub(1))?;
                 let [first, second] = [rank, rank + 1].map(|r| usize::from(tables.order[r]));
                 tables.timestamps[second] = tables.timestamps[first];
+            }
+            Self::CutoffInfinity if held > 0 => return None,
+            Self::CutoffInfinity => tables.cutoff[0] = INFINITY,
+            Self::TimestampBelowCutoff => {
+                let rank = match random.below(2) {
+                    0 => 0,
+                    _ => index_below(random, held)?,
+                };
+                let timestamp = tables.timestamps[usize::from(tables.order[rank])];
+                if held == 0 || timestamp == INFINITY - 1 {
+                    return None;
+                }
+                tables.cutoff[0] = timestamp + 1;
             }
             Self::OrderNoPlace => {
                 let rank = index_below(random, held)?;

@@ -32,6 +32,8 @@ macro_rules! with_tables {
             (written_values, written)
             (view, view)
             (version, versions)
+            (cutoff, cutoff)
+            (kept, kept)
         }
     };
 }
@@ -93,6 +95,11 @@ pub fn take_in(
 /// Withdraws a change.
 pub fn withdraw(n: usize, tables: &mut Tables, timestamp: u64) -> Result<(), u8> {
     calls::withdraw(n, tables, timestamp).map_err(Refusal::number)
+}
+
+/// Drops every change stamped below a timestamp, and keeps the values as of it.
+pub fn cutoff(n: usize, tables: &mut Tables, timestamp: u64) -> Result<(), u8> {
+    calls::cutoff(n, tables, timestamp).map_err(Refusal::number)
 }
 
 /// Takes in a package.

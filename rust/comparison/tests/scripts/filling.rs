@@ -37,13 +37,22 @@ enum Event {
     Same,
     OtherArrival,
     OtherStatus,
+    /// One of them has dropped changes.
+    OtherCutoff,
+    /// The cabinet that is filled has the lists and the view of a neighbour with a cutoff, and has not.
+    SameState,
+    OtherState,
 }
 
-/// A cabinet reached by a random list of calls, most often with changes that wait for their turns,
-/// and the package that it writes.
-fn neighbour(random: &mut Random, n: usize, reached: &mut Reached<Event>) -> (Script, Vec<u8>) {
+/// A cabinet reached by a random list of calls from this source, most often with changes that wait for
+/// their turns, and the package that it writes.
+fn neighbour(
+    random: &mut Random,
+    n: usize,
+    source: &mut Source,
+    reached: &mut Reached<Event>,
+) -> (Script, Vec<u8>) {
     let mut script = Script::new(n);
-    let source = &mut Source::new(random, n);
     let count = calls_in_list(random, n);
     script.make_all(random, source, count, &mut Reached::default());
     for _ in 0..random.below(24) {
@@ -152,7 +161,9 @@ fn fill_in_part(random: &mut Random, n: usize, package: &[u8], reached: &mut Rea
 fn a_cabinet_is_filled_from_its_neighbour() {
     let reached = count_reached(NEIGHBOURS, |random, index, reached| {
         let n = 1 + index % CAPACITIES;
-        let (mut neighbour, package) = neighbour(random, n, reached);
+        // "filling an empty cabinet holds only where both cabinets have cutoff 0" (document 02, R-7).
+        let source = &mut Source::new(random, n).without_cutoffs();
+        let (mut neighbour, package) = neighbour(random, n, source, reached);
         let totals = generate::totals(random, TOTALS);
         neighbour.drain(totals, &mut Reached::default());
         let written = neighbour.package_out(package.len(), &mut Reached::default());
@@ -238,7 +249,8 @@ fn statuses(tables: &Tables) -> Vec<Status> {
 fn cabinets_with_equal_books_write_the_same_package() {
     let reached = count_reached(NEIGHBOURS, |random, index, reached| {
         let n = 1 + index % CAPACITIES;
-        let (one, package) = neighbour(random, n, reached);
+        let source = &mut Source::new(random, n);
+        let (one, package) = neighbour(random, n, source, reached);
         let held = one.both.tables().held_count();
         let capacity = held.max(1) + random.below(8);
         let other = holding_the_same(random, capacity, &package);
@@ -251,9 +263,43 @@ fn cabinets_with_equal_books_write_the_same_package() {
         let arrival = one.timestamps[..held] != other.timestamps[..held];
         reached.count_if(arrival, Event::OtherArrival);
         reached.count_if(statuses(one) != statuses(other), Event::OtherStatus);
+        reached.count_if(one.cutoff() > 0, Event::OtherCutoff);
     });
-    for event in [Event::Same, Event::OtherArrival, Event::OtherStatus] {
+    for event in [
+        Event::Same,
+        Event::OtherArrival,
+        Event::OtherStatus,
+        Event::OtherCutoff,
+    ] {
         reached.assert_at_least(NEIGHBOURS / 2, event);
     }
     assert_neighbours(&reached);
+}
+
+/// Where a neighbour has a cutoff, a cabinet takes in its package, and begins from other kept values.
+#[test]
+fn a_neighbour_with_a_cutoff_may_leave_another_state() {
+    let reached = count_reached(NEIGHBOURS, |random, index, reached| {
+        let n = 1 + index % CAPACITIES;
+        let source = &mut Source::new(random, n).with_cutoffs();
+        let (mut neighbour, package) = neighbour(random, n, source, reached);
+        neighbour.drain(generate::totals(random, TOTALS), &mut Reached::default());
+        let mut expected = neighbour.both.tables().clone();
+        if expected.cutoff() == 0 {
+            return;
+        }
+        let (mut script, answers) = taken_in(random, n, &package);
+        script.drain(generate::totals(random, TOTALS), &mut Reached::default());
+        let tables = script.both.tables();
+        let checked = filled::check_filled(&answers, tables, &expected);
+        assert_eq!(checked, Err(filled::Breach::Cutoff));
+        // As if it had none.
+        expected.cutoff[0] = 0;
+        reached.count(match filled::check_filled(&answers, tables, &expected) {
+            Ok(()) => Event::SameState,
+            Err(_) => Event::OtherState,
+        });
+    });
+    reached.assert_at_least(NEIGHBOURS / 4, Event::OtherState);
+    reached.assert_at_least(NEIGHBOURS / 100, Event::SameState);
 }

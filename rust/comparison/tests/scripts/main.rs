@@ -1,9 +1,11 @@
 //! Random lists of calls on tables just set up: the proved calls against the outside
-//! implementation, demand 3, and cabinets that are filled from others.
+//! implementation, demand 3, cabinets that are filled from others, and cabinets that drop changes.
 
+mod dropping;
 mod filling;
 
 use comparison::both::Both;
+use comparison::cutoffs::{self, CutoffEvent};
 use comparison::generate::scripts::{Call, Change, Source};
 use comparison::generate::{self, packages, Random, REFUSED_TOTALS};
 use comparison::own_writes::OwnWrite;
@@ -50,6 +52,11 @@ enum Event {
     OtherVersionWhenFull,
     Withdrawn(Status),
     WithdrawRefused(u8),
+    Cutoff(CutoffEvent),
+    /// A change is taken in at the cutoff, which is not 0, and where the tables were full before a
+    /// cutoff and are full again.
+    TakenAtCutoff,
+    Refilled,
     Package,
     PackageRefused(u8),
     /// The answers of a package's changes and withdrawals, and changes of both versions that are
@@ -65,6 +72,9 @@ enum Event {
     /// A change that was Valid before a drain has a turn in it.
     DrainMarks,
     Drained,
+    /// Drained where changes were dropped before, and where later cutoffs dropped some.
+    DrainedCut,
+    DrainedCutAgain,
     Drain(DrainEvent),
     /// A drain is refused that is lent so many totals, and one where changes wait for their turns.
     DrainRefused(usize),
@@ -78,6 +88,9 @@ enum Event {
 struct Script {
     both: Both,
     calls: Vec<book::Call>,
+    /// How many cutoffs dropped changes, and whether the tables were full before one of them.
+    cut: usize,
+    cut_full: bool,
 }
 
 impl Script {
@@ -85,6 +98,8 @@ impl Script {
         Self {
             both: Both::just_set_up(n),
             calls: Vec::new(),
+            cut: 0,
+            cut_full: false,
         }
     }
 
@@ -93,6 +108,7 @@ impl Script {
         reached.count_if(self.both.tables().held_count() > 0, Event::SetUp);
         assert_eq!(self.both.set_up(), Ok(()));
         self.calls.clear();
+        (self.cut, self.cut_full) = (0, false);
     }
 
     /// Makes random calls, a drain last, and queries between them.
@@ -141,6 +157,9 @@ impl Script {
             } => {
                 let taken = self.both.take_in(timestamp, version, &program);
                 count_taken(reached, &before, timestamp, version, &program, taken);
+                let full = self.both.tables().held_count() == self.both.capacity();
+                let refilled = taken == Ok(Taken::Done) && full && self.cut_full;
+                reached.count_if(refilled, Event::Refilled);
                 self.calls.push(book::Call::TakeIn {
                     timestamp,
                     version,
@@ -162,6 +181,7 @@ impl Script {
                     answer: number(withdrawn.map(|()| Taken::Done)),
                 });
             }
+            Call::Cutoff { timestamp } => self.cutoff(timestamp, reached),
             Call::TakeInPackage {
                 package,
                 mut answers,
@@ -189,6 +209,26 @@ impl Script {
                 self.calls.push(book::Call::Drain(None));
             }
         }
+    }
+
+    /// Makes a cutoff, and checks the cutoff and the kept values of the tables by the book.
+    fn cutoff(&mut self, timestamp: u64, reached: &mut Reached<Event>) {
+        let before = self.both.tables().clone();
+        let made = self.both.cutoff(timestamp);
+        for event in cutoffs::events(&before, timestamp, made) {
+            reached.count(Event::Cutoff(event));
+        }
+        let held = self.both.tables().held_count();
+        if held < before.held_count() {
+            self.cut += 1;
+            self.cut_full |= before.held_count() == self.both.capacity();
+        }
+        self.calls.push(book::Call::Cutoff {
+            timestamp,
+            answer: number(made.map(|()| Taken::Done)),
+        });
+        let checked = book::check_kept(&self.calls, self.both.tables());
+        assert!(checked.is_ok(), "{checked:?} of {:?}", self.calls);
     }
 
     /// Drains, lent these 1,024 totals, compares the drain with single turns on both, and checks
@@ -241,6 +281,8 @@ impl Script {
         assert_eq!(plain_run(self.both.capacity(), tables, &mut plain), Ok(()));
         assert!(tables.view == plain, "the view is what a plain run leaves");
         reached.count(Event::Drained);
+        reached.count_if(self.cut > 0, Event::DrainedCut);
+        reached.count_if(self.cut > 1, Event::DrainedCutAgain);
     }
 }
 
@@ -356,6 +398,7 @@ fn count_taken(
         Ok(Taken::Done) => {
             let version = Version::from_number(version).expect("it is not refused");
             reached.count(Event::Taken(version));
+            reached.count_if(timestamp == before.cutoff(), Event::TakenAtCutoff);
         }
         Ok(Taken::AlreadyHeld) => {
             reached.count(Event::Held);
@@ -439,16 +482,19 @@ fn lists_of_calls_have_the_same_answers_and_tables_and_meet_demand_3() {
         Event::Turn(TurnEvent::Marked),
         Event::Turn(TurnEvent::ViewWritten),
         Event::Turn(TurnEvent::ViewOfLaterWriter),
+        Event::Turn(TurnEvent::KeptSeen),
+        Event::DrainedCut,
+        Event::DrainedCutAgain,
     ] {
         reached.assert_at_least(SCRIPTS, event);
     }
+    assert_cutoffs(&reached, SCRIPTS);
     for event in [
         Event::Held,
         Event::HeldWithdrawn,
         Event::HeldWhenFull,
         Event::OtherVersion,
         Event::OtherVersionWithdrawn,
-        Event::OtherVersionWhenFull,
         Event::PackageOfBothVersions,
         Event::DrainOfNone,
         Event::DrainMarks,
@@ -480,6 +526,9 @@ fn lists_of_calls_have_the_same_answers_and_tables_and_meet_demand_3() {
         Event::Turn(TurnEvent::MarkedWriter),
         Event::Turn(TurnEvent::NextWriterStops),
         Event::Turn(TurnEvent::ViewOnRemoval),
+        Event::Turn(TurnEvent::KeptEqual),
+        Event::Turn(TurnEvent::KeptUnlikeStart),
+        Event::Turn(TurnEvent::KeptOnRemoval),
         Event::Drain(DrainEvent::Consoles(1)),
         Event::Drain(DrainEvent::Consoles(2)),
         Event::Drain(DrainEvent::Consoles(4)),
@@ -513,7 +562,7 @@ fn lists_of_calls_have_the_same_answers_and_tables_and_meet_demand_3() {
             reached.assert_at_least(SCRIPTS / 20, Event::Turn(event(own_write)));
         }
         let stood = TurnEvent::OwnWriteStood(own_write);
-        reached.assert_at_least(SCRIPTS / 100, Event::Turn(stood));
+        reached.assert_at_least(SCRIPTS / 200, Event::Turn(stood));
     }
     for version in Version::ALL {
         for event in [
@@ -527,12 +576,12 @@ fn lists_of_calls_have_the_same_answers_and_tables_and_meet_demand_3() {
     for (answered, answers) in [
         (
             Event::TakeInRefused as fn(u8) -> Event,
-            &[4, 6, 13, 7, 8, 9][..],
+            &[4, 14, 6, 13, 7, 8, 9][..],
         ),
-        (Event::WithdrawRefused, &[4, 10, 11]),
+        (Event::WithdrawRefused, &[4, 14, 10, 11]),
         (Event::PackageRefused, &[1, 3]),
-        (Event::ChangeAnswered, &[DONE, ALREADY_HELD, 4, 7, 8, 9]),
-        (Event::WithdrawalAnswered, &[DONE, 4, 10, 11]),
+        (Event::ChangeAnswered, &[DONE, ALREADY_HELD, 4, 14, 7, 8, 9]),
+        (Event::WithdrawalAnswered, &[DONE, 4, 14, 10, 11]),
     ] {
         for &answer in answers {
             reached.assert_at_least(SCRIPTS / 50, answered(answer));
@@ -540,6 +589,58 @@ fn lists_of_calls_have_the_same_answers_and_tables_and_meet_demand_3() {
     }
     for length in REFUSED_TOTALS {
         reached.assert_at_least(SCRIPTS / 50, Event::DrainRefused(length));
+    }
+    for event in [
+        Event::OtherVersionWhenFull,
+        Event::TakenAtCutoff,
+        Event::Refilled,
+        Event::Turn(TurnEvent::KeptHolds),
+    ] {
+        reached.assert_at_least(SCRIPTS / 50, event);
+    }
+}
+
+/// Panics unless so many lists of calls had cutoffs of every kind that calls can reach.
+#[track_caller]
+fn assert_cutoffs(reached: &Reached<Event>, lists: usize) {
+    for event in [
+        CutoffEvent::Done,
+        CutoffEvent::DropsSome,
+        CutoffEvent::ClosesUp,
+        CutoffEvent::StaysAt,
+        CutoffEvent::Kept,
+    ] {
+        reached.assert_at_least(lists, Event::Cutoff(event));
+    }
+    for event in [
+        CutoffEvent::Refused(4),
+        CutoffEvent::Refused(14),
+        CutoffEvent::Refused(15),
+        CutoffEvent::Unsettled(Status::New),
+        CutoffEvent::Unsettled(Status::Invalid),
+        CutoffEvent::UnsettledWithdrawn(Status::New),
+        CutoffEvent::UnsettledWithdrawn(Status::Invalid),
+        CutoffEvent::UnsettledHighest,
+        CutoffEvent::Again,
+        CutoffEvent::OfNone,
+        CutoffEvent::DropsNone,
+        CutoffEvent::DropsAll,
+        CutoffEvent::GoesBelow,
+        CutoffEvent::StaysBefore,
+        CutoffEvent::OtherArrival,
+        CutoffEvent::DroppedArrival,
+        CutoffEvent::Waiting(Status::New),
+        CutoffEvent::Waiting(Status::Invalid),
+        CutoffEvent::Withdrawn,
+        CutoffEvent::NoWrites,
+        CutoffEvent::KeptAfterKept,
+        CutoffEvent::KeptOfSeveral,
+        CutoffEvent::KeptEarlierArrival,
+        CutoffEvent::KeptUnlikeView,
+        CutoffEvent::KeptBelowWrite,
+        CutoffEvent::KeepsKept,
+    ] {
+        reached.assert_at_least(lists / 20, Event::Cutoff(event));
     }
 }
 
@@ -564,6 +665,13 @@ fn make_alone(n: usize, tables: &mut tolbezun::Tables, call: Call) -> book::Call
             book::Call::Withdraw {
                 timestamp,
                 answer: number(withdrawn.map(|()| Taken::Done)),
+            }
+        }
+        Call::Cutoff { timestamp } => {
+            let made = proved::cutoff(n, tables, timestamp);
+            book::Call::Cutoff {
+                timestamp,
+                answer: number(made.map(|()| Taken::Done)),
             }
         }
         Call::TakeInPackage {
@@ -602,8 +710,8 @@ fn turn_alone(n: usize, tables: &mut tolbezun::Tables) -> Option<LoggedTurn> {
 /// Demand 3 without the outside implementation's Checker.
 #[test]
 fn lists_of_calls_on_the_proved_library_alone_meet_demand_3() {
-    let drained = with_seeds(|random, share| {
-        let mut drained = 0;
+    let [drained, cut] = with_seeds(|random, share| {
+        let [mut drained, mut cut] = [0; 2];
         for index in 0..share.of(SCRIPTS_ALONE) {
             let n = 1 + index % CAPACITIES;
             let mut source = Source::new(random, n);
@@ -619,21 +727,31 @@ fn lists_of_calls_on_the_proved_library_alone_meet_demand_3() {
                     _ => source.call(random, &proved::take_back(&tables)),
                 };
                 calls.push(make_alone(n, &mut tables, call));
-                if let Some(book::Call::Drain(Some(_))) = calls.last() {
-                    let checked = book::check(&calls, &proved::take_back(&tables));
-                    assert!(checked.is_ok(), "{checked:?} of {calls:?}");
-                    drained += 1;
-                }
+                let left = || proved::take_back(&tables);
+                let checked = match calls.last() {
+                    Some(book::Call::Drain(Some(_))) => {
+                        drained += 1;
+                        book::check(&calls, &left())
+                    }
+                    Some(book::Call::Cutoff { .. }) => {
+                        cut += 1;
+                        book::check_kept(&calls, &left())
+                    }
+                    _ => Ok(()),
+                };
+                assert!(checked.is_ok(), "{checked:?} of {calls:?}");
             }
         }
-        drained
+        [drained, cut]
     });
-    println!("demand 3 checked {drained} times");
+    println!("demand 3 checked {drained} times, cutoffs {cut} times");
     assert!(drained > 4 * SCRIPTS_ALONE, "{drained}");
+    assert!(cut > 2 * SCRIPTS_ALONE, "{cut}");
 }
 
 /// Tables of the highest capacity filled by packages of changes, by falling timestamp, with withdrawals
-/// among them. Every third change is late: it comes after a drain.
+/// among them. Every third change is late: it comes after a drain. Then half of them are dropped, and as
+/// many others come.
 #[test]
 fn full_tables_of_capacity_4096_have_the_same_answers_and_tables_and_meet_demand_3() {
     let reached = with_seeds(|random, share| {
@@ -673,10 +791,15 @@ fn full_tables_of_capacity_4096_have_the_same_answers_and_tables_and_meet_demand
             script.drain_as_alone(totals, &mut reached);
         }
         assert_eq!(script.both.tables().held_count(), n);
+        script.cutoff(n as u64 / 2 + 1, &mut reached);
+        assert_eq!(script.both.tables().held_count(), n - n / 2);
+        script.drain_as_alone(generate::totals(random, TOTALS), &mut reached);
+        dropping::fill_up(random, &mut script, &mut reached);
         reached
     });
 
     reached.print();
+    reached.assert_at_least(1, Event::Cutoff(CutoffEvent::DropsSome));
     reached.assert_at_least(MAX_CAPACITY, Event::ChangeAnswered(DONE));
     reached.assert_at_least(100, Event::WithdrawalAnswered(DONE));
     reached.assert_at_least(1, Event::TakeInRefused(9));
@@ -684,7 +807,7 @@ fn full_tables_of_capacity_4096_have_the_same_answers_and_tables_and_meet_demand
     reached.assert_at_least(4, Event::Withdrawn(Status::Valid));
     reached.assert_at_least(8, Event::Turn(TurnEvent::RanFirst));
     reached.assert_at_least(500, Event::DrainMarks);
-    reached.assert_at_least(2, Event::Drained);
+    reached.assert_at_least(3, Event::Drained);
 }
 
 /// Lists of calls at the highest capacity, with so many changes taken in first.

@@ -1,8 +1,9 @@
 use super::*;
 use crate::calls::Refusal;
-use crate::checker::drain;
+use crate::checker::{drain, turn};
 use crate::examples::{add, copy, not_zero, package, set, set_version, write_named_by, Script};
 use crate::package::ALREADY_HELD;
+use crate::program::Instruction;
 
 /// 30 copies 34 to 50, drained; 10 sets 34 to 7 and 20 sets 40 to 1 and is withdrawn, drained.
 fn drained() -> Script {
@@ -503,4 +504,204 @@ fn turns_of_a_drain_end_after_one_too_many() {
     let turns = turns_of_drain(3, || Some(LoggedTurn::new(turn, &script.tables)));
     assert_eq!(turns.len(), 4);
     assert_eq!(turns_of_drain(3, || None), []);
+}
+
+// Document 02, R-7.
+
+/// 10 sets 34 to 7 and 40 to 3, 20 sets 40 to 5 and is withdrawn, 30 copies 34 to 50, 40 adds 1 to 34;
+/// drained, and cut off at 30.
+fn cut_off() -> Script {
+    let mut script = Script::new(4);
+    script.take_in(40, &add(34, 1));
+    script.take_in(10, &[set(34, 7), set(40, 3)].concat());
+    script.take_in(30, &copy(34, 50));
+    script.take_in(20, &set(40, 5));
+    script.drain();
+    script.withdraw(20);
+    script.drain();
+    script.cutoff(30);
+    script
+}
+
+#[test]
+fn a_list_with_cutoffs_meets_demand_3() {
+    let mut script = cut_off();
+    assert_eq!(script.kept(), [(34, 7), (40, 3)]);
+    assert_eq!(script.drain(), []);
+    // Freed places take new changes, which begin from the kept values.
+    script.take_in(31, &copy(40, 60));
+    script.take_in(35, &set(34, 9));
+    assert_eq!(script.try_take_in(36, 0, &[]), 9);
+    let turns = [31, 35, 40].map(|timestamp| (timestamp, Turned::Ran));
+    assert_eq!(script.drain(), turns);
+    assert_eq!(script.view(), [(34, 10), (40, 3), (50, 7), (60, 3)]);
+    script.cutoff(36);
+    assert_eq!(script.drain(), []);
+    assert_eq!(script.kept(), [(34, 9), (40, 3), (50, 7), (60, 3)]);
+}
+
+#[test]
+fn refused_cutoffs_leave_the_book() {
+    let mut script = cut_off();
+    script.take_in(50, &[]);
+    for (timestamp, refusal) in [(0, 4), (u64::MAX, 4), (29, 14), (1, 14), (51, 15)] {
+        assert_eq!(script.try_cutoff(timestamp), refusal);
+    }
+    script.drain();
+    assert_eq!(script.tables.held_count(), 3);
+    // As if one of them had been answered done.
+    for index in 9..14 {
+        let mut script = script.clone();
+        let Call::Cutoff { answer, .. } = &mut script.calls[index] else {
+            panic!("{:?}", script.calls[index]);
+        };
+        *answer = DONE;
+        assert_eq!(script.check(), Err(Breach::Cutoff));
+    }
+}
+
+#[test]
+fn the_cutoff_is_that_of_the_last_one_answered_done() {
+    let mut script = Script::new(4);
+    script.drain();
+    for wrong in [1, 30, u64::MAX - 1] {
+        let mut script = script.clone();
+        script.tables.cutoff[0] = wrong;
+        assert_eq!(script.check(), Err(Breach::Cutoff));
+    }
+    let mut script = cut_off();
+    script.drain();
+    for wrong in [0, 10, 29, 31, 40] {
+        let mut script = script.clone();
+        script.tables.cutoff[0] = wrong;
+        assert_eq!(script.check(), Err(Breach::Cutoff));
+    }
+}
+
+#[test]
+fn the_kept_values_are_those_of_the_dropped_changes_and_no_others() {
+    let mut script = cut_off();
+    script.drain();
+    for setting in [0, 34, 40, 50, 1023] {
+        let mut script = script.clone();
+        script.tables.kept[setting] += 1;
+        assert_eq!(script.check(), Err(Breach::Kept(setting)));
+        assert_eq!(
+            check_kept(&script.calls, &script.tables),
+            Err(Breach::Kept(setting))
+        );
+    }
+    // Those of the view, and what the withdrawn change had written.
+    let mut of_view = script.clone();
+    of_view.tables.kept.clone_from(&script.tables.view);
+    assert_eq!(of_view.check(), Err(Breach::Kept(34)));
+    script.tables.kept[40] = 5;
+    assert_eq!(script.check(), Err(Breach::Kept(40)));
+}
+
+/// 10 sets 34; 20 reads it. One fresh run goes through both, though they were dropped one by one.
+#[test]
+fn the_kept_values_are_those_of_one_fresh_run_of_all_dropped_changes() {
+    let mut script = Script::new(1);
+    script.take_in(10, &set(34, 7));
+    script.drain();
+    script.cutoff(15);
+    script.take_in(20, &add(34, 1));
+    script.drain();
+    script.cutoff(25);
+    script.take_in(30, &copy(34, 50));
+    script.drain();
+    assert_eq!(script.kept(), [(34, 8)]);
+    assert_eq!(script.reads(30), [(34, 8)]);
+    // From the start values again.
+    script.tables.kept[34] = 2;
+    assert_eq!(script.check(), Err(Breach::Kept(34)));
+}
+
+#[test]
+fn cutoff_and_kept_values_do_not_wait_for_a_drain() {
+    let mut script = cut_off();
+    script.take_in(31, &set(34, 9));
+    assert_eq!(check_kept(&script.calls, &script.tables), Ok(()));
+    script.tables.cutoff[0] = 0;
+    let checked = check_kept(&script.calls, &script.tables);
+    assert_eq!(checked, Err(Breach::Cutoff));
+}
+
+#[test]
+fn a_dropped_change_is_no_longer_held() {
+    let mut script = cut_off();
+    script.drain();
+    // As if the tables still held it.
+    script.tables.held[0] = 3;
+    script.tables.timestamps[2] = 10;
+    assert_eq!(script.check(), Err(Breach::Timestamps));
+    // As if they had dropped the one at the cutoff too.
+    let mut script = cut_off();
+    script.drain();
+    script.tables.held[0] = 1;
+    assert_eq!(script.check(), Err(Breach::Timestamps));
+}
+
+/// The fresh run of what is held begins from the kept values: 30 saw 7 in 34.
+#[test]
+fn lists_and_view_after_a_cutoff_are_those_from_the_kept_values() {
+    let mut script = cut_off();
+    script.drain();
+    assert_eq!(script.reads(30), [(34, 7)]);
+    let [thirty, forty] = [30, 40].map(|timestamp| script.tables.place_of(timestamp));
+    let (thirty, forty) = (thirty.expect("it is held"), forty.expect("it is held"));
+    type Alter = fn(&mut Tables, usize, usize);
+    let alterations: [(Alter, Breach); 5] = [
+        (
+            |tables, thirty, _| tables.seen[32 * thirty] = 1,
+            Breach::Reads(30),
+        ),
+        (
+            |tables, thirty, _| tables.written[32 * thirty] = 1,
+            Breach::Writes(30),
+        ),
+        (
+            |tables, _, forty| tables.written[32 * forty] = 2,
+            Breach::Writes(40),
+        ),
+        (|tables, _, _| tables.view[34] = 7, Breach::View(34)),
+        (|tables, _, _| tables.view[40] = 0, Breach::View(40)),
+    ];
+    for (alter, breach) in alterations {
+        let mut script = script.clone();
+        alter(&mut script.tables, thirty, forty);
+        assert_eq!(script.check(), Err(breach));
+    }
+}
+
+/// Tables that hold a change below the cutoff, as if it had been taken in since: it would have run
+/// before what was dropped.
+#[test]
+fn what_is_held_has_the_lists_that_it_has_where_nothing_is_dropped() {
+    let late = |program: &[Instruction]| {
+        let mut script = Script::new(4);
+        script.take_in(20, &set(34, 5));
+        script.drain();
+        script.cutoff(30);
+        script.tables.cutoff[0] = 0;
+        script.take_in(10, program);
+        turn(4, &mut script.tables).expect("the tables are in form");
+        script.tables.cutoff[0] = 30;
+        let ran = LoggedTurn::new(
+            Turn {
+                timestamp: 10,
+                turned: Turned::Ran,
+            },
+            &script.tables,
+        );
+        script
+            .calls
+            .push(Call::Drain(Some((vec![0; TOTALS], vec![ran]))));
+        count_again(script.calls.last_mut().expect("it is the last"));
+        script.check()
+    };
+    assert_eq!(late(&copy(34, 50)), Err(Breach::Lost(10)));
+    assert_eq!(late(&set(34, 7)), Err(Breach::LostView(34)));
+    assert_eq!(late(&set(35, 7)), Ok(()));
 }

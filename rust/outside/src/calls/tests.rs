@@ -1,5 +1,6 @@
 use super::*;
 use crate::examples::{add, copy, four_changes, moved, set, tables, Change, NEW, VALID};
+use crate::start::settings_at_start;
 use crate::tables::MAX_CAPACITY;
 
 /// What each call that tests form answers on these tables, with arguments that are right and with
@@ -44,6 +45,8 @@ fn refusals_have_their_numbers() {
         (Refusal::NotHeld, 10),
         (Refusal::Withdrawn, 11),
         (Refusal::Room, 12),
+        (Refusal::Cutoff, 14),
+        (Refusal::Unsettled, 15),
     ];
     for (refusal, number) in refusals {
         assert_eq!(refusal.number(), number);
@@ -63,6 +66,14 @@ fn lengths_come_before_form_and_form_before_arguments() {
     assert_all_refused(6, &tables, Refusal::Form);
     tables.versions.push(0);
     assert_all_refused(6, &tables, Refusal::Length);
+    let mut tables = four_changes();
+    tables.cutoff[0] = 11;
+    assert_all_refused(6, &tables, Refusal::Form);
+    tables.kept.push(0);
+    assert_all_refused(6, &tables, Refusal::Length);
+    tables.kept.pop();
+    tables.cutoff.push(0);
+    assert_all_refused(6, &tables, Refusal::Length);
     assert_all_refused(0, &Tables::new(0), Refusal::Length);
     assert_all_refused(4097, &Tables::new(4097), Refusal::Length);
 }
@@ -70,16 +81,20 @@ fn lengths_come_before_form_and_form_before_arguments() {
 // Set up.
 
 #[test]
-fn set_up_fills_every_table_with_0_and_the_view_with_the_start_values() {
+fn set_up_fills_every_table_with_0_and_view_and_kept_values_with_the_start_values() {
     let mut tables = four_changes();
     tables.held[0] = 7;
     tables.order.fill(9);
     tables.versions.fill(1);
     tables.view.fill(-1);
+    tables.cutoff.fill(u64::MAX);
+    tables.kept.fill(-1);
     assert_eq!(set_up(6, &mut tables), Ok(()));
     assert_eq!(tables, Tables::new(6));
     assert_eq!(tables.view, settings_at_start());
     assert_eq!(tables.versions, [0; 6]);
+    assert_eq!(tables.cutoff, [0]);
+    assert_eq!(tables.kept, settings_at_start());
     let mut largest = Tables::new(MAX_CAPACITY);
     assert_eq!(set_up(MAX_CAPACITY, &mut largest), Ok(()));
 }
@@ -167,6 +182,70 @@ fn a_timestamp_of_0_is_4_and_infinity_is_allowed() {
     assert_eq!(as_of(u64::MAX, 34), Ok(-5));
     assert_eq!(as_of(u64::MAX, 1024), Err(Refusal::Setting));
     assert_eq!(as_of(1, 34), Ok(1));
+}
+
+/// Four changes with this cutoff, at most 10, and with each setting kept at 1,000 more than its number.
+fn with_cutoff(cutoff: u64) -> Tables {
+    let mut tables = four_changes();
+    tables.cutoff[0] = cutoff;
+    for (setting, kept) in tables.kept.iter_mut().enumerate() {
+        *kept = 1_000 + setting as i32;
+    }
+    tables
+}
+
+/// "a value as of a time before any write" begins "from the kept values" (document 02, R-7).
+#[test]
+fn a_value_as_of_a_time_before_any_write_is_the_kept_one() {
+    for cutoff in [0, 10] {
+        let tables = with_cutoff(cutoff);
+        for (timestamp, setting, value) in [
+            (10, 34, 1_034),
+            (11, 34, 7),
+            (u64::MAX, 34, -5),
+            (10, 40, 1_040),
+            (u64::MAX, 40, 3),
+            (30, 50, 1_050),
+            (31, 50, 7),
+            (10, 0, 1_000),
+            (u64::MAX, 1023, 2_023),
+        ] {
+            assert_eq!(value_as_of(6, &tables, timestamp, setting), Ok(value));
+        }
+    }
+}
+
+/// "Refusal 14, just after 4, meets a timestamp below the cutoff in any call" (document 02, R-7).
+#[test]
+fn a_timestamp_below_the_cutoff_is_14() {
+    let tables = with_cutoff(10);
+    for timestamp in [1, 5, 9] {
+        assert_eq!(standing(6, &tables, timestamp), Err(Refusal::Cutoff));
+        for setting in [34, 1024] {
+            let answer = value_as_of(6, &tables, timestamp, setting);
+            assert_eq!(answer, Err(Refusal::Cutoff));
+        }
+    }
+    // The cutoff itself, and what is above it.
+    assert!(standing(6, &tables, 10).is_ok());
+    assert_eq!(standing(6, &tables, 11), Err(Refusal::NotHeld));
+    for timestamp in [10, u64::MAX] {
+        assert!(value_as_of(6, &tables, timestamp, 34).is_ok());
+        let answer = value_as_of(6, &tables, timestamp, 1024);
+        assert_eq!(answer, Err(Refusal::Setting));
+    }
+    // 0 is below every other cutoff.
+    assert_eq!(standing(6, &tables, 0), Err(Refusal::Timestamp));
+    assert_eq!(value_as_of(6, &tables, 0, 34), Err(Refusal::Timestamp));
+    let mut highest = Tables::new(1);
+    highest.cutoff[0] = u64::MAX - 1;
+    assert_eq!(standing(1, &highest, u64::MAX), Err(Refusal::Timestamp));
+    for timestamp in [1, u64::MAX - 2] {
+        assert_eq!(standing(1, &highest, timestamp), Err(Refusal::Cutoff));
+    }
+    for timestamp in [u64::MAX - 1, u64::MAX] {
+        assert_eq!(value_as_of(1, &highest, timestamp, 34), Ok(1));
+    }
 }
 
 // Standing.
@@ -260,6 +339,28 @@ fn the_plain_run_runs_each_change_by_its_own_version() {
     assert_eq!(by(1, 0), [(51, 1), (60, 2)]);
     assert_eq!(by(0, 1), [(34, 9), (50, 7), (51, 9)]);
     assert_eq!(by(1, 1), [(34, 9), (50, 7), (51, 9), (60, 2)]);
+}
+
+/// "the plain run" begins "from the kept values" (document 02, R-7).
+#[test]
+fn the_plain_run_begins_from_the_kept_values() {
+    for cutoff in [0, 10] {
+        let tables = with_cutoff(cutoff);
+        let mut expected = tables.kept_settings();
+        // 10 sets 34 and 40, 20 sets 34 and 30 copies it.
+        (expected[34], expected[40], expected[50]) = (9, 3, 9);
+        let mut lent = [0; SETTINGS];
+        assert_eq!(plain_run(6, &tables, &mut lent), Ok(()));
+        assert_eq!(lent, expected);
+    }
+    let change = Change {
+        timestamp: 10,
+        program: copy(34, 50),
+        ..Change::default()
+    };
+    let mut tables = tables(1, &[0], &[change]);
+    tables.kept[34] = 77;
+    assert_eq!(plain(1, &tables), [(34, 77), (50, 77)]);
 }
 
 #[test]

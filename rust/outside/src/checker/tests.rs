@@ -769,6 +769,104 @@ fn only_changed_settings_without_a_later_writer_are_stored_to_a_wrong_view() {
     assert_eq!(tables.view, expected);
 }
 
+/// Tables with one change, and with these settings kept at these values.
+fn keeping(kept: &[(usize, i32)], change: Change) -> Tables {
+    let mut tables = tables(1, &[0], &[change]);
+    for &(setting, value) in kept {
+        tables.kept[setting] = value;
+    }
+    tables
+}
+
+/// "Any other fresh run, the plain run and a value as of a time before any write then begin from the
+/// kept values" (document 02, R-7), whatever the cutoff is.
+#[test]
+fn a_run_reads_the_kept_values() {
+    for cutoff in [0, 1, 10] {
+        let copying = Change {
+            program: copy(34, 50),
+            ..change(10, NEW, &[], &[])
+        };
+        let mut tables = keeping(&[(34, 77)], copying.clone());
+        tables.cutoff[0] = cutoff;
+        let before = tables.clone();
+        assert_eq!(totals(1, &mut tables), [(40, 1)]);
+        let mut expected = keeping(
+            &[(34, 77)],
+            Change {
+                status: VALID,
+                reads: vec![(34, 77)],
+                writes: vec![(50, 77)],
+                ..copying
+            },
+        );
+        expected.cutoff[0] = cutoff;
+        expected.view.clone_from(&before.view);
+        expected.view[50] = 77;
+        assert_eq!(tables, expected);
+    }
+}
+
+#[test]
+fn a_seen_value_holds_where_it_is_the_kept_one() {
+    for (seen, turned) in [(77, Stood), (1, Ran)] {
+        let reader = Change {
+            program: copy(34, 50),
+            ..change(10, INVALID, &[(34, seen)], &[(50, seen)])
+        };
+        let mut tables = keeping(&[(34, 77)], reader);
+        let timestamp = 10;
+        let answer = turn(1, &mut tables);
+        assert_eq!(answer, Ok(Some(Turn { timestamp, turned })));
+    }
+}
+
+/// A write is added with the kept value, with the start value; one is removed with the kept value, with
+/// the start value. Only another value than the kept one changes the setting.
+#[test]
+fn a_setting_changed_where_its_value_is_not_the_kept_one() {
+    for (program, writes, changed) in [
+        (set(34, 77), vec![], false),
+        (set(34, 1), vec![], true),
+        (vec![], vec![(34, 77)], false),
+        (vec![], vec![(34, 1)], true),
+    ] {
+        let changes = [
+            Change {
+                program,
+                ..change(10, INVALID, &[(99, 1)], &writes)
+            },
+            change(20, VALID, &[(34, 0)], &[]),
+        ];
+        let mut tables = tables(2, &[0, 1], &changes);
+        tables.kept[34] = 77;
+        tables.view.fill(-1);
+        let removed = !writes.is_empty();
+        let answer = turn(2, &mut tables);
+        assert!(answer.is_ok_and(|turn| turn.is_some()));
+        assert_eq!(tables.status[1], if changed { INVALID } else { VALID });
+        // The view has what was written, or the kept value where a write is gone.
+        let view = match (changed, removed) {
+            (false, _) => -1,
+            (true, false) => 1,
+            (true, true) => 77,
+        };
+        assert_eq!(tables.view[34], view);
+    }
+}
+
+#[test]
+fn turns_and_drains_leave_cutoff_and_kept_values() {
+    let mut tables = four_changes();
+    tables.cutoff[0] = 10;
+    tables.kept.fill(5);
+    let before = tables.clone();
+    assert!(turn(6, &mut tables).is_ok());
+    totals(6, &mut tables);
+    assert_eq!(tables.cutoff, before.cutoff);
+    assert_eq!(tables.kept, before.kept);
+}
+
 /// The lowest writer above T is the last one to be marked, and only Valid changes are.
 #[test]
 fn marking_goes_through_the_next_writer() {

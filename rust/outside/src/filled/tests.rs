@@ -46,11 +46,14 @@ fn what_is_written_is_the_books() {
     );
 }
 
-/// Another capacity, another order of arrival, other statuses; what is refused or already held
-/// leaves the book.
+/// Another capacity, another order of arrival, other statuses; what is refused, already held or
+/// dropped since leaves the book.
 #[test]
 fn cabinets_with_equal_books_write_the_same() {
     let mut other = Script::new(9);
+    other.take_in(5, &set(34, 5));
+    other.drain();
+    other.cutoff(6);
     let mut entries = package(&[
         (20, 0, &set(34, 9)),
         (20, 1, &[]),
@@ -179,6 +182,32 @@ fn a_cabinet_is_filled_from_its_neighbour() {
     assert_eq!(checked, Err(Breach::Answer(2)));
     let checked = check_filled(&[DONE; 4], &filled.tables, &neighbour.tables);
     assert_eq!(checked, Err(Breach::Timestamps));
+}
+
+/// "filling an empty cabinet holds only where both cabinets have cutoff 0" (document 02, R-7).
+#[test]
+fn nothing_is_claimed_where_a_cabinet_has_a_cutoff() {
+    let mut neighbour = neighbour();
+    neighbour.drain();
+    // 10 goes, and 34 stays at 7 before 30 copies it.
+    neighbour.cutoff(20);
+    let package = neighbour.package_out();
+    let checked = check_package(&neighbour.calls, MAX_BYTES, Ok(&package));
+    assert_eq!(checked, Ok(()));
+    let (filled, answers) = filled(4, &package);
+    assert_eq!(answers, [DONE; 3]);
+    assert_eq!(
+        (filled.reads(30), neighbour.reads(30)),
+        (vec![(34, 1)], vec![(34, 7)])
+    );
+    let check = |filled: &Tables, neighbour: &Tables| check_filled(&answers, filled, neighbour);
+    let checked = check(&filled.tables, &neighbour.tables);
+    assert_eq!(checked, Err(Breach::Cutoff));
+    let checked = check(&neighbour.tables, &filled.tables);
+    assert_eq!(checked, Err(Breach::Cutoff));
+    let checked = check(&neighbour.tables, &neighbour.tables);
+    assert_eq!(checked, Err(Breach::Cutoff));
+    assert_eq!(check(&filled.tables, &filled.tables), Ok(()));
 }
 
 #[test]

@@ -247,6 +247,46 @@ fn take_in_refuses_in_order() {
     assert_eq!(answer, Err(Refusal::Length));
 }
 
+/// "Refusal 14, just after 4" (document 02, R-7): the programs are refused too, or held, or there is no
+/// room for them.
+#[test]
+fn a_timestamp_below_the_cutoff_is_14_full_or_not() {
+    for (n, mut tables) in [(6, four_changes()), (4, full())] {
+        tables.cutoff[0] = 10;
+        for timestamp in [1, 9] {
+            for (version, program) in [(0, &[][..]), (2, &[255; 9]), (2, &[]), (1, &[255; 16])] {
+                let answer = answer_unaltered(n, &tables, timestamp, version, program);
+                assert_eq!(answer, Err(Refusal::Cutoff));
+            }
+            let refusal = refused_withdrawal(n, &tables, timestamp);
+            assert_eq!(refusal, Refusal::Cutoff);
+        }
+        for timestamp in [0, u64::MAX] {
+            let answer = answer_unaltered(n, &tables, timestamp, 2, &[255; 9]);
+            assert_eq!(answer, Err(Refusal::Timestamp));
+            let refusal = refused_withdrawal(n, &tables, timestamp);
+            assert_eq!(refusal, Refusal::Timestamp);
+        }
+    }
+}
+
+#[test]
+fn a_change_stamped_at_the_cutoff_is_taken_in_and_withdrawn() {
+    for cutoff in [1, 10, u64::MAX - 1] {
+        let mut tables = Tables::new(2);
+        tables.cutoff[0] = cutoff;
+        tables.kept.fill(-1);
+        let mut expected = tables.clone();
+        expected.held[0] = 1;
+        expected.timestamps[0] = cutoff;
+        assert_eq!(take_in(2, &mut tables, cutoff, 0, &[]), Ok(Taken::Done));
+        assert_eq!(tables, expected);
+        expected.withdrawn[0] = 1;
+        assert_eq!(withdraw(2, &mut tables, cutoff), Ok(()));
+        assert_eq!(tables, expected);
+    }
+}
+
 // Withdraw.
 
 /// "Withdrawing sets the flag; Valid becomes Invalid."

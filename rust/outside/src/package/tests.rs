@@ -342,6 +342,40 @@ fn every_answer_of_an_entry() {
     assert_eq!(tables.status, [2, 1, 2, 0, 0, 0]);
 }
 
+/// "Refusal 14, just after 4" (document 02, R-7), for each entry: what else is wrong with one below the
+/// cutoff does not count, and it stops nothing.
+#[test]
+fn an_entry_below_the_cutoff_is_answered_14() {
+    let malformed = Instruction {
+        op: 18,
+        ..Instruction::default()
+    };
+    let package = package(&[
+        (9, 0, &set(34, 1)),
+        (10, 0, &[set(34, 7), set(40, 3)].concat()),
+        (9, 0, &[malformed]),
+        (1, 1, &[]),
+        (0, 0, &set(34, 1)),
+        (0, 1, &[]),
+        (u64::MAX, 1, &[]),
+        (11, 0, &set(34, 1)),
+        (9, 1, &[]),
+        (10, 1, &[]),
+        (12, 0, &set(34, 1)),
+        (13, 0, &set(34, 1)),
+        (9, 0, &set(34, 1)),
+    ]);
+    let mut tables = four_changes();
+    tables.cutoff[0] = 10;
+    let (tables, answers) = taken_in(6, tables, &package);
+    let expected = [14, 8, 14, 14, 4, 4, 4, 0, 14, 0, 0, 9, 14];
+    assert_eq!(answers[..13], expected);
+    assert_eq!(answers[13..], [99; 499]);
+    assert_eq!(tables.timestamps, [30, 10, 40, 20, 11, 12]);
+    assert_eq!(tables.withdrawn, [0, 1, 1, 0, 0, 0]);
+    assert_eq!(tables.cutoff, [10]);
+}
+
 #[test]
 fn a_package_of_no_entries_touches_nothing() {
     let (tables, answers) = taken_in(6, four_changes(), &[0, 0]);

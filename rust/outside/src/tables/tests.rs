@@ -50,6 +50,8 @@ fn tables_have_the_lengths_that_document_01_gives() {
     assert_eq!(tables.seen.len(), 96);
     assert_eq!(tables.view.len(), 1024);
     assert_eq!(tables.versions.len(), 3);
+    assert_eq!(tables.cutoff.len(), 1);
+    assert_eq!(tables.kept.len(), 1024);
     assert!(check_lengths(3, &tables));
     assert!(!check_lengths(2, &tables));
     assert!(!check_lengths(4, &tables));
@@ -67,9 +69,9 @@ fn every_table_has_exactly_its_length() {
     }
     let resizes = resize! {
         held timestamps order status withdrawn lengths programs reads writes sources seen targets
-        written view versions
+        written view versions cutoff kept
     };
-    assert_eq!(resizes.len(), 15);
+    assert_eq!(resizes.len(), 17);
     for (name, resize) in resizes {
         for (length, right) in [
             ((|length| length) as fn(usize) -> usize, true),
@@ -119,6 +121,65 @@ fn full_tables_are_in_form() {
 #[test]
 fn the_view_is_not_tested() {
     assert!(in_form_with(|t| t.view.fill(i32::MIN)));
+}
+
+#[test]
+fn the_kept_values_are_not_tested() {
+    for cutoff in [0, 10] {
+        assert!(in_form_with(|t| {
+            t.cutoff[0] = cutoff;
+            t.kept.fill(i32::MIN);
+        }));
+    }
+}
+
+/// "In form, the cutoff is at most 2^64 − 2 and no held timestamp lies below it." (document 02, R-7)
+#[test]
+fn no_held_timestamp_is_below_the_cutoff() {
+    // The lowest of the four has place 1.
+    for (cutoff, right) in [
+        (0, true),
+        (1, true),
+        (9, true),
+        (10, true),
+        (11, false),
+        (20, false),
+        (41, false),
+        ((1 << 32) + 10, false),
+        (u64::MAX - 1, false),
+        (u64::MAX, false),
+    ] {
+        assert_eq!(in_form_with(|t| t.cutoff[0] = cutoff), right, "{cutoff}");
+    }
+    // A status or a flag does not matter.
+    assert!(!in_form_with(|t| {
+        t.cutoff[0] = 11;
+        t.withdrawn[1] = 1;
+    }));
+}
+
+#[test]
+fn the_cutoff_is_at_most_2_64_minus_2() {
+    for (cutoff, right) in [
+        (0, true),
+        (1 << 63, true),
+        (u64::MAX - 1, true),
+        (u64::MAX, false),
+    ] {
+        let mut tables = Tables::new(2);
+        tables.cutoff[0] = cutoff;
+        assert_eq!(in_form(2, &tables), right, "{cutoff}");
+    }
+    let mut tables = tables(
+        2,
+        &[0],
+        &[Change {
+            timestamp: u64::MAX - 1,
+            ..change()
+        }],
+    );
+    tables.cutoff[0] = u64::MAX - 1;
+    assert!(in_form(2, &tables));
 }
 
 #[test]

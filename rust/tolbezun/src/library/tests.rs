@@ -104,7 +104,12 @@ fn of_header() -> Vec<Function> {
 }
 
 /// The crates whose exported functions are the library, in the header's order.
-const SOURCES: [&str; 3] = ["export_intake", "export_turns", "export_queries"];
+const SOURCES: [&str; 4] = [
+    "export_intake",
+    "export_turns",
+    "export_cutoff",
+    "export_queries",
+];
 
 /// The exported functions of the library's sources.
 fn of_source() -> Vec<Function> {
@@ -166,7 +171,7 @@ fn of_crate() -> Vec<Function> {
 #[test]
 fn header_declares_what_the_source_exports() {
     let header = of_header();
-    assert_eq!(header.len(), 12);
+    assert_eq!(header.len(), 13);
     assert_eq!(header, of_source());
 }
 

@@ -1,9 +1,11 @@
 -- `tables::form::fault` meets its contract: the lengths are tested first, and then the form. Assumes nothing.
-use mathlib.Core.Path.{_≡_, sym, _∙_}
+use mathlib.Core.Path.{_≡_, refl, sym, _∙_}
 use mathlib.Core.Bool.{Bool, true, _&&_}
 use native.Mathlib.Omega.{arith}
 use borrow.Author.Tests.{not-true, not-false}
-use Rattle.model.specs.Tables.{Tables, tables}
+use lib.Dec.{ltb}
+use Rattle.model.specs.History.{infinity}
+use Rattle.model.specs.Tables.{Tables, tables, cutoffIn}
 use Rattle.model.specs.Form.{lengthsFit, inForm}
 use Rattle.model.proofs.Tests.{Lengths, lengths-of}
 use Rattle.tables.proofs.Checks.{over-capacity, form-tested, lengths-wrong, form-wrong, none-wrong}
@@ -13,10 +15,10 @@ use Rattle.tables.proofs.form.fault.Tie as tie
 abbrev lent : tie.Start → Tables
 lent s =
     let a = s .args in
-    tables (a .held .now) (a .timestamps .now) (a .order .now) (a .status .now) (a .withdrawn .now) (a .lengths .now) (a .programs .now) (a .reads .now) (a .writes .now) (a .sources .now) (a .seen .now) (a .targets .now) (a .written .now) (a .view .now) (a .versions .now)
+    tables (a .held .now) (a .timestamps .now) (a .order .now) (a .status .now) (a .withdrawn .now) (a .lengths .now) (a .programs .now) (a .reads .now) (a .writes .now) (a .sources .now) (a .seen .now) (a .targets .now) (a .written .now) (a .view .now) (a .versions .now) (a .cutoff .now) (a .kept .now)
 
 abbrev entry : tie.After-lengths-fit → tie.Start
-entry c = c .before .before .before .before .before .before .before .before .before .before .before .before .before
+entry c = c .before .before .before .before .before .before .before .before .before .before .before .before .before .before
 
 returns : tie.Need-returns
 returns c = lengths-wrong _ (lent (entry (c .before))) (sym (c .before .lengths-fit .ensures) ∙ not-true _ (c .if1 .taken))
@@ -36,7 +38,7 @@ returns-2 c = let t = c .before in form-wrong _ _ (right (t .before)) (over-capa
 
 -- the place after the count is tested, from each test of form
 abbrev from-heads : tie.After-heads-fit → tie.Else2
-from-heads c = c .before
+from-heads c = c .before .before
 
 abbrev from-order : tie.After-order-fits → tie.Else2
 from-order c = from-heads (c .before)
@@ -53,24 +55,29 @@ from-writes c = from-reads (c .before)
 abbrev from-unused : tie.After-unused-fits → tie.Else2
 from-unused c = from-writes (c .before)
 
--- the tests of form, joined
-abbrev joint : tie.After-unused-fits → Bool
-joint c =
-    let reads = c .before .before in
-    let order = reads .before .before in
-    order .before .heads-fit .result && order .order-fits .result && reads .before .programs-fit .result && reads .lists-fit .result && c .before .lists-fit2 .result && c .unused-fits .result
+abbrev from-cutoff : tie.After-none-below → tie.Else2
+from-cutoff c = from-unused (c .before)
 
-tested : (c : tie.After-unused-fits) → let s = entry (sized (from-unused c) .before) in joint c ≡ inForm (s .args .n) (lent s)
-tested c =
-    let reads = c .before .before in
+-- the tests of form, joined
+abbrev joint : tie.After-none-below → Bool
+joint c =
+    let unused = c .before in
+    let reads = unused .before .before in
     let order = reads .before .before in
-    form-tested _ _ (from-unused c .before .held-count .ensures) (from-unused c .if2 .left) (order .before .heads-fit .ensures) (order .order-fits .ensures) (reads .before .programs-fit .ensures) (reads .lists-fit .ensures) (c .before .lists-fit2 .ensures) (c .unused-fits .ensures)
+    order .before .heads-fit .result && order .order-fits .result && reads .before .programs-fit .result && reads .lists-fit .result && unused .before .lists-fit2 .result && unused .unused-fits .result && ltb (cutoffIn (lent (entry (sized (from-cutoff c) .before)))) infinity && c .none-below .result
+
+tested : (c : tie.After-none-below) → let s = entry (sized (from-cutoff c) .before) in joint c ≡ inForm (s .args .n) (lent s)
+tested c =
+    let unused = c .before in
+    let reads = unused .before .before in
+    let order = reads .before .before in
+    form-tested _ _ (from-cutoff c .before .held-count .ensures) (from-cutoff c .if2 .left) (order .before .heads-fit .ensures) (order .order-fits .ensures) (reads .before .programs-fit .ensures) (reads .lists-fit .ensures) (unused .before .lists-fit2 .ensures) (unused .unused-fits .ensures) refl (c .none-below .ensures)
 
 returns-3 : tie.Need-returns-3
-returns-3 c = none-wrong _ _ (right (sized (from-unused (c .before)))) (sym (tested (c .before)) ∙ c .if3 .taken)
+returns-3 c = none-wrong _ _ (right (sized (from-cutoff (c .before)))) (sym (tested (c .before)) ∙ c .if3 .taken)
 
 returns-4 : tie.Need-returns-4
-returns-4 c = form-wrong _ _ (right (sized (from-unused (c .before)))) (sym (tested (c .before)) ∙ c .if3 .left)
+returns-4 c = form-wrong _ _ (right (sized (from-cutoff (c .before)))) (sym (tested (c .before)) ∙ c .if3 .left)
 
 pub fault-spec : {M : Type 1} → statement M
 fault-spec =
@@ -80,11 +87,13 @@ fault-spec =
     returns
     (λ c κs. lengths-of _ _ (right c) .held)
     returns-2
-    (λ c κs. let g = fits c in omega (arith, c .if2 .left, g .timestamps, g .status, g .withdrawn, g .reads, g .writes, g .versions))
+    (λ c. let g = fits (c .before) in omega (arith, g .cutoff))
+    (λ c κs. let s = c .before in let g = fits s in omega (arith, s .if2 .left, g .timestamps, g .status, g .withdrawn, g .reads, g .writes, g .versions))
     (λ c κs. let s = from-heads c in omega (arith, s .if2 .left, fits s .order))
     (λ c κs. let s = from-order c in let g = fits s in omega (arith, s .if2 .left, g .capacity, g .lengths, g .programs))
     (λ c κs. let s = from-programs c in let g = fits s in omega (arith, s .if2 .left, g .capacity, g .reads, g .sources, g .seen))
     (λ c κs. let s = from-reads c in let g = fits s in omega (arith, s .if2 .left, g .capacity, g .writes, g .targets, g .written))
     (λ c κs. let s = from-writes c in omega (arith, s .if2 .left, fits s .capacity))
+    (λ c κs. let s = from-unused c in omega (arith, s .if2 .left, fits s .timestamps))
     returns-3
     returns-4)

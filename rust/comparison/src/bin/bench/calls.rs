@@ -1,10 +1,11 @@
 //! Each call but turn and drain as the history grows.
 
-use crate::history::{self, changes, drained, sum_among, Change, FEW, SIZES};
+use crate::history::{self, changes, drained, stamp, sum_among, Change, FEW, SIZES};
 use crate::rows::{Rows, COLUMNS};
 use comparison::generate::Random;
 use comparison::proved::calls as proved;
 use outside::calls::{self, Refusal};
+use outside::cutoff;
 use outside::intake::{self, Taken};
 use outside::package::{self, ANSWERS, DONE, MAX_BYTES, MAX_ENTRIES};
 use outside::program::SETTINGS;
@@ -20,7 +21,7 @@ const UNWRITTEN: usize = 1_000;
 
 const HEADING: &str = "\
 All changes are sums: each reads two of 64 settings and writes one, in 6 instructions. So many are
-held after each call.
+held after each call, and before a cutoff, where they arrived in any order.
 ";
 
 pub fn print(random: &mut Random) {
@@ -33,6 +34,7 @@ pub fn print(random: &mut Random) {
         queries(&rows, &drained, sums[0].timestamp);
         package_out(&rows, &drained, &sums);
         package(&rows, random);
+        cutoffs(&rows, random);
     }
 }
 
@@ -159,4 +161,24 @@ fn package(rows: &Rows, random: &mut Random) {
         },
     );
     assert_eq!(answers, [DONE; ANSWERS]);
+}
+
+/// Cutoffs that drop no change, and half of them.
+fn cutoffs(rows: &Rows, random: &mut Random) {
+    let mut sums = changes(0..rows.held, |_| sum_among(random, FEW));
+    random.shuffle(&mut sums);
+    let tables = drained(rows.n, &sums);
+    for (name, dropped) in [
+        ("cutoff, drops none", 0),
+        ("cutoff, drops half", rows.held / 2),
+    ] {
+        let timestamp = stamp(dropped);
+        let ((), after) = rows.row(
+            name,
+            &tables,
+            |n, tables| proved::cutoff(n, tables, timestamp),
+            |n, tables| cutoff::cutoff(n, tables, timestamp),
+        );
+        assert_eq!(usize::from(after.held[0]), rows.held - dropped);
+    }
 }

@@ -9,7 +9,8 @@ macro_rules! with_tables {
     ($carry_out:ident($($argument:ident),*)) => {
         $carry_out! {
             ($($argument),*) held timestamps order status withdrawn length programs read_count
-            write_count read_settings seen_values write_settings written_values view version
+            write_count read_settings seen_values write_settings written_values view version cutoff
+            kept
         }
     };
 }
