@@ -9,10 +9,11 @@ use Rattle.model.specs.Tables.{listIn}
 use Rattle.search.specs.Searches.{rankOf}
 use Rattle.search.proofs.Steps.{rank-within}
 use Rattle.compaction.specs.Closed.{Remaining, renumberedBy, Renumberable}
-use Rattle.dropping.specs.Dropping.{carriedFirst, Written, Droppable, Dropped}
+use Rattle.values.specs.Values.{Carriable}
+use Rattle.dropping.specs.Dropping.{carriedFirst, Droppable, Dropped}
 
 -- fewer changes
-few-written : {k count : ℕ} {order writes targets : List ℕ} {written : List ℤ} → k ≤ count → Written count order writes targets written → Written k order writes targets written
+few-written : {k count : ℕ} {order writes targets : List ℕ} {written : List ℤ} → k ≤ count → Carriable count order writes targets written → Carriable k order writes targets written
 few-written h w =
     record {
       placed = record { long = omega (arith, w .placed .long); below = λ j q. w .placed .below j (omega arith) };
@@ -24,7 +25,7 @@ module _ {held timestamps order writes targets : List ℕ} {written : List ℤ} 
   within : first ≤ count
   within = omega (arith, ranked, rank-within order timestamps t count)
 
-  pub first-written : Written first order writes targets written
+  pub first-written : Carriable first order writes targets written
   first-written = few-written (omega (arith, within, counted)) (d .wrote)
 
   pub renumberable : Renumberable first count order

@@ -3,14 +3,15 @@ use mathlib.Core.Path.{_≡_}
 use mathlib.Core.Bool.{Bool, false, cond}
 use mathlib.Core.List.{List, [], _∷_}
 use mathlib.Core.Option.{Option, none, some}
-use Prim.Native.Nat.{ℕ, zero, suc, _<_, _≤_}
+use Prim.Native.Nat.{ℕ, zero, suc, _≤_}
 use lib.Dec.{eqb, ltb}
 use lib.IntN.{ℤ, pos}
 use lib.ListN.{length, getD, set}
 use Rattle.machine.specs.Settings.{settingCount, Entry, carry}
-use Rattle.model.specs.Tables.{slots, listIn}
+use Rattle.model.specs.Tables.{listIn}
 use Rattle.model.specs.Refusals.{Test, test, firstOf, noTimestamp, belowCutoff}
-use Rattle.search.specs.Searches.{PlacesWithin, WriteLists, OfSettings, rankOf, waitingOf}
+use Rattle.search.specs.Searches.{PlacesWithin, rankOf, waitingOf}
+use Rattle.values.specs.Values.{Carriable}
 use Rattle.compaction.specs.Closed.{Remaining, closed, Closable, renumberedBy}
 
 -- ---- the refusal
@@ -48,12 +49,6 @@ unfoldable pub carriedFirst : (ℕ → List Entry) → List ℕ → List ℤ →
 carriedFirst writes order values zero = values
 carriedFirst writes order values (suc k) = carry (writes (getD order k 0)) (carriedFirst writes order values k)
 
--- the first count changes of the order list have their writes in the tables
-pub record Written (count : ℕ) (order writes targets : List ℕ) (written : List ℤ) : Type 0 where
-  pub placed : PlacesWithin count order (length writes)
-  pub listed : WriteLists writes targets written
-  pub settings : (k : ℕ) → k < count → OfSettings (slots 32 (getD order k 0) (getD writes (getD order k 0) 0) targets)
-
 -- ---- changes dropped from the order list
 
 pub record Droppable (held timestamps order writes targets : List ℕ) (written : List ℤ) (cutoff : List ℕ) (kept : List ℤ) : Type 0 where
@@ -61,7 +56,7 @@ pub record Droppable (held timestamps order writes targets : List ℕ) (written 
   pub capacity : length timestamps ≤ 4096
   pub small : getD held 0 0 ≤ length timestamps
   pub stamped : PlacesWithin (getD held 0 0) order (length timestamps)
-  pub wrote : Written (getD held 0 0) order writes targets written
+  pub wrote : Carriable (getD held 0 0) order writes targets written
   pub cut : length cutoff ≡ 1
   pub valued : length kept ≡ settingCount
 

@@ -16,7 +16,8 @@ ghost use lib.ListN.{length, getD, take};
 ghost use Rattle.machine.specs.Settings.{carry};
 ghost use Rattle.model.specs.Tables.{slots, listIn};
 ghost use Rattle.search.specs.Searches.{WriteLists, OfSettings};
-ghost use Rattle.dropping.specs.Dropping.{refusalIn, Testable, carriedFirst, Written, Droppable, Dropped};
+ghost use Rattle.values.specs.Values.{Carriable};
+ghost use Rattle.dropping.specs.Dropping.{refusalIn, Testable, carriedFirst, Droppable, Dropped};
 ghost use Rattle.dropping.specs.Dropping.{ColumnsClosable, ColumnsClosed, BlocksClosable, BlocksClosed};
 
 // The refusal of a cutoff: that of the tables, if they have one, else 4, 14 or 15, or 0 where there is none.
@@ -86,7 +87,7 @@ pub fn carry_first(
     written: &[i32],
     values: &mut [i32],
 )
-    requires { ⌜ Written count (now order) (now writes) (now targets) (now written) × (length (now values) ≡ 1024) ⌝ }
+    requires { ⌜ Carriable count (now order) (now writes) (now targets) (now written) × (length (now values) ≡ 1024) ⌝ }
     ensures { λ _. ⌜
         now (values .exit)
         ≡ carriedFirst (listIn (now (writes .entry)) (now (targets .entry)) (now (written .entry))) (now (order .entry))

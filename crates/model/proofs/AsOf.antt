@@ -1,5 +1,5 @@
 -- The values as of a timestamp, in a history by rising timestamp.
-use mathlib.Core.Path.{_≡_, refl, ap, _∙_}
+use mathlib.Core.Path.{_≡_, refl}
 use mathlib.Core.Bool.{cond}
 use mathlib.Core.List.{[], _∷_, _++_, map}
 use Prim.Native.Nat.{ℕ, _<_, _≤_}
@@ -39,28 +39,8 @@ pub rising-none-below : (t b : ℕ) (h : History) → t ≤ b → Rising b h →
 rising-none-below t b [] q r = tt
 rising-none-below t b (c ∷ h) q r = (omega arith, rising-none-below t (timestamp c) h (omega arith) (r .2))
 
--- of a change in a rising history: it is above the bound, what follows rises above it
-pub rising-from : (b : ℕ) (a : History) (c : Change) (h : History) → Rising b (a ++ (c ∷ h)) → (b < timestamp c) × Rising (timestamp c) h
-rising-from b [] c h r = (r .0, r .2)
-rising-from b (d ∷ a) c h r =
-    let k = rising-from (timestamp d) a c h (r .2) in
-    (omega arith, k .1)
-
--- and what precedes is below it
-pub rising-all-below : (b : ℕ) (a : History) (c : Change) (h : History) → Rising b (a ++ (c ∷ h)) → AllBelow (timestamp c) a
-rising-all-below b [] c h r = tt
-rising-all-below b (d ∷ a) c h r = (rising-from (timestamp d) a c h (r .2) .0, rising-all-below (timestamp d) a c h (r .2))
-
 -- the values as of the first change of a rising history are those that it starts from
 pub asOf-first : (c : Change) (h : History) (env : Environment) → Rising (timestamp c) h → asOf (timestamp c) (c ∷ h) env ≡ env
 asOf-first c h env r =
     let t = timestamp c in
     asOf-none-below t (c ∷ h) env (omega arith, rising-none-below t t h (omega arith) r)
-
--- those as of any change are what the changes before it leave
-pub asOf-split : (b : ℕ) (a : History) (c : Change) (h : History) (env : Environment) → Rising b (a ++ (c ∷ h)) → asOf (timestamp c) (a ++ (c ∷ h)) env ≡ afterAll a env
-asOf-split b a c h env r =
-    let t = timestamp c in
-    asOf-append t a (c ∷ h) env
-    ∙ ap (asOf t (c ∷ h)) (asOf-all-below t a env (rising-all-below b a c h r))
-    ∙ asOf-first c h (afterAll a env) (rising-from b a c h r .1)

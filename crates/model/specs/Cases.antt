@@ -322,8 +322,8 @@ own-writes-package =
       facts = current 34 (Is (pos 5)) ∷ [];
     }
 
--- document 02, R-7: 30, 10, 40 and 20 arrive in this order and fill the tables; drained, 20 is withdrawn. A cutoff at 30 is refused while 20 is Invalid. Once 20 is cleared it drops 10 and 20, and keeps 400 in 36, where 30 and 40 close up to places 0 and 1; 35 takes a freed place, reads 400 and makes
--- 40 run again. 30, at the cutoff, is held; what is stamped below it meets 14, but no timestamp meets 4 first
+-- document 02, R-7: 30, 10, 40 and 20 arrive in this order and fill the tables; drained, 20 is withdrawn. A cutoff at 30 is refused while 20 is Invalid. Once 20 is cleared it drops 10 and 20, and keeps the value 400 of setting 36; 30 and 40 close up to places 0 and 1. Then 35 takes a freed place, reads 400, and makes
+-- 40 run again. 30, exactly at the cutoff, is held. What is stamped below the cutoff meets 14; 0, which is no timestamp, meets 4 before that
 cut-off : Case
 cut-off =
     record {

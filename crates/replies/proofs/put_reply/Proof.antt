@@ -1,9 +1,8 @@
 -- `replies::put_reply` meets its contract: the line of a refused package, or the lines of the entries, of the turns and of the settings. Assumes nothing.
-use mathlib.Core.Path.{_≡_, sym, _∙_}
+use mathlib.Core.Path.{sym, _∙_}
 use native.Mathlib.Omega.{arith}
 use Rattle.text.proofs.Pieces.{put-as, put-then}
 use Rattle.model.specs.Tables.{Tables, tables}
-use Rattle.model.specs.Calls.{answerNumber}
 use Rattle.model.proofs.Form.{facts}
 use Rattle.tables.proofs.Kept.{behind, behind-tables, status-kept, reads-kept, writes-kept, sources-kept, seen-kept, targets-kept, written-kept, view-kept}
 use Rattle.replies.specs.Putting.{Answered}
