@@ -15,10 +15,84 @@
 //! | `refused R` | all but `start_values`, `tables` and `load` |
 
 use crate::json;
-use crate::script::{Call, Quoted};
+use crate::script::Call;
 use std::{fmt, fs, io};
+use text_form::Quoted;
 use tolbezun::calls::{self, ANSWERS, TOTALS};
-use tolbezun::{start_values, Refusal, Tables, Taken, Turned, MAX_CAPACITY, SETTINGS};
+use tolbezun::{start_values, Refusal, Standing, Tables, Taken, Turned, MAX_CAPACITY, SETTINGS};
+
+/// The answer to a line. It shows itself as the table of this module says.
+#[derive(Clone, Debug, PartialEq, Eq)]
+pub enum Answer {
+    /// Of a call with no other result.
+    Done,
+    /// Of `take_in`.
+    Taken(Taken),
+    /// Of `turn`.
+    Turned(Turned),
+    /// Of `drain`: all totals.
+    Totals(Vec<u16>),
+    /// Of `current` and `value_as_of`.
+    Value(i32),
+    /// Of `standing`.
+    Standing(Standing),
+    /// Of `take_in_package`: a byte for each entry.
+    Entries(Vec<u8>),
+    /// Of `package_out`: the bytes written.
+    Package(Vec<u8>),
+    /// Of `plain_run` and `start_values`.
+    Settings(Vec<i32>),
+    /// Of `tables`: the line of JSON.
+    Tables(String),
+    /// Of a call that is turned down.
+    Refused(Refusal),
+}
+
+impl fmt::Display for Answer {
+    fn fmt(&self, f: &mut fmt::Formatter<'_>) -> fmt::Result {
+        match self {
+            Self::Done | Self::Taken(Taken::Done) => f.write_str("done"),
+            Self::Taken(Taken::AlreadyHeld) => f.write_str("held"),
+            Self::Turned(Turned::Idle) => f.write_str("idle"),
+            Self::Turned(Turned::Ran(timestamp)) => write!(f, "ran {timestamp}"),
+            Self::Turned(Turned::Stood(timestamp)) => write!(f, "stood {timestamp}"),
+            Self::Turned(Turned::Cleared(timestamp)) => write!(f, "cleared {timestamp}"),
+            Self::Turned(Turned::Faulted(timestamp, place)) => {
+                write!(f, "faulted {timestamp} {place}")
+            }
+            Self::Totals(totals) => write!(f, "done by console {{{}}}", counted(totals)),
+            Self::Value(value) => write!(f, "value {value}"),
+            Self::Standing(Standing { status, withdrawn }) => {
+                write!(f, "standing {} {}", status.number(), u8::from(*withdrawn))
+            }
+            Self::Entries(answers) => write!(f, "done answers {answers:?}"),
+            Self::Package(bytes) => write!(f, "length {} {}", bytes.len(), Hex(bytes)),
+            Self::Settings(settings) => write!(f, "done {settings:?}"),
+            Self::Tables(line) => f.write_str(line),
+            Self::Refused(refusal) => write!(f, "refused {}", refusal.number()),
+        }
+    }
+}
+
+/// The totals that are not 0, each behind its place.
+fn counted(totals: &[u16]) -> String {
+    let counted: Vec<String> = totals
+        .iter()
+        .enumerate()
+        .filter(|(_, total)| **total != 0)
+        .map(|(place, total)| format!(r#""{place}": {total}"#))
+        .collect();
+    counted.join(", ")
+}
+
+/// Shows bytes as pairs of hexadecimal digits.
+struct Hex<'a>(&'a [u8]);
+
+impl fmt::Display for Hex<'_> {
+    fn fmt(&self, f: &mut fmt::Formatter<'_>) -> fmt::Result {
+        self.0.iter().try_for_each(|byte| write!(f, "{byte:02x}"))
+    }
+}
 
 /// A capacity, and the tables that each call is lent.
 pub struct Runner {
@@ -62,31 +136,38 @@ impl Runner {
         Self { n, tables }
     }
 
+    /// The tables as they stand.
+    pub fn tables(&self) -> &Tables {
+        &self.tables
+    }
+
     /// Carries out a call and returns its answer. After an error the tables are as before.
-    pub fn answer(&mut self, call: &Call) -> Result<String, Error> {
+    pub fn answer(&mut self, call: &Call) -> Result<Answer, Error> {
         let (n, tables) = (self.n, &mut self.tables);
+        let done = |()| Answer::Done;
         let answer = match *call {
             Call::SetUp => calls::set_up(n, tables).map(done),
             Call::TakeIn {
                 timestamp,
                 ref program,
                 version,
-            } => calls::take_in(n, tables, timestamp, version, program).map(taken),
+            } => calls::take_in(n, tables, timestamp, version, program).map(Answer::Taken),
             Call::Withdraw { timestamp } => calls::withdraw(n, tables, timestamp).map(done),
-            Call::Turn => calls::turn(n, tables).map(turned),
+            Call::Turn => calls::turn(n, tables).map(Answer::Turned),
             Call::Drain { totals } => {
                 let mut totals = zeros(totals.unwrap_or(TOTALS))?;
-                calls::drain(n, tables, &mut totals).map(|()| by_console(&totals))
+                calls::drain(n, tables, &mut totals).map(|()| Answer::Totals(totals))
             }
             Call::Cutoff { timestamp } => calls::cutoff(n, tables, timestamp).map(done),
-            Call::CurrentValue { setting } => calls::current_value(n, tables, setting).map(value),
-            Call::ValueAsOf { timestamp, setting } => {
-                calls::value_as_of(n, tables, timestamp, setting).map(value)
+            Call::CurrentValue { setting } => {
+                calls::current_value(n, tables, setting).map(Answer::Value)
             }
-            Call::Standing { timestamp } => calls::standing(n, tables, timestamp).map(|standing| {
-                let flag = u8::from(standing.withdrawn);
-                format!("standing {} {flag}", standing.status.number())
-            }),
+            Call::ValueAsOf { timestamp, setting } => {
+                calls::value_as_of(n, tables, timestamp, setting).map(Answer::Value)
+            }
+            Call::Standing { timestamp } => {
+                calls::standing(n, tables, timestamp).map(Answer::Standing)
+            }
             Call::TakeInPackage {
                 ref package,
                 answers,
@@ -94,75 +175,29 @@ impl Runner {
                 let mut answers = zeros(answers.unwrap_or(ANSWERS))?;
                 calls::take_in_package(n, tables, package, &mut answers).map(|()| {
                     answers.truncate(calls::entry_count(package));
-                    format!("done answers {answers:?}")
+                    Answer::Entries(answers)
                 })
             }
             Call::PackageOut { length } => {
                 let mut package = zeros(length)?;
-                calls::package_out(n, tables, &mut package)
-                    .map(|length| format!("length {length} {}", Hex(&package[..length])))
+                calls::package_out(n, tables, &mut package).map(|length| {
+                    package.truncate(length);
+                    Answer::Package(package)
+                })
             }
             Call::PlainRun => {
-                let mut settings = [0; SETTINGS];
-                calls::plain_run(n, tables, &mut settings).map(|()| format!("done {settings:?}"))
+                let mut settings = vec![0; SETTINGS];
+                calls::plain_run(n, tables, &mut settings).map(|()| Answer::Settings(settings))
             }
-            Call::StartValues => Ok(format!("done {:?}", start_values())),
-            Call::Tables => Ok(json::write(tables)),
+            Call::StartValues => Ok(Answer::Settings(start_values().to_vec())),
+            Call::Tables => Ok(Answer::Tables(json::write(tables))),
             Call::Load { ref file } => {
                 *tables = load(file)?;
-                Ok(done(()))
+                Ok(Answer::Done)
             }
         };
-        Ok(answer.unwrap_or_else(refused))
+        Ok(answer.unwrap_or_else(Answer::Refused))
     }
-}
-
-fn done((): ()) -> String {
-    "done".to_string()
-}
-
-fn taken(taken: Taken) -> String {
-    match taken {
-        Taken::Done => done(()),
-        Taken::AlreadyHeld => "held".to_string(),
-    }
-}
-
-fn turned(turned: Turned) -> String {
-    match turned {
-        Turned::Idle => "idle".to_string(),
-        Turned::Ran(timestamp) => format!("ran {timestamp}"),
-        Turned::Stood(timestamp) => format!("stood {timestamp}"),
-        Turned::Cleared(timestamp) => format!("cleared {timestamp}"),
-        Turned::Faulted(timestamp, place) => format!("faulted {timestamp} {place}"),
-    }
-}
-
-fn by_console(totals: &[u16]) -> String {
-    let counted: Vec<String> = totals
-        .iter()
-        .enumerate()
-        .filter(|(_, total)| **total != 0)
-        .map(|(place, total)| format!(r#""{place}": {total}"#))
-        .collect();
-    format!("done by console {{{}}}", counted.join(", "))
-}
-
-fn value(value: i32) -> String {
-    format!("value {value}")
-}
-
-/// Shows bytes as pairs of hexadecimal digits.
-struct Hex<'a>(&'a [u8]);
-
-impl fmt::Display for Hex<'_> {
-    fn fmt(&self, f: &mut fmt::Formatter<'_>) -> fmt::Result {
-        self.0.iter().try_for_each(|byte| write!(f, "{byte:02x}"))
-    }
-}
-
-fn refused(refusal: Refusal) -> String {
-    format!("refused {}", refusal.number())
 }
 
 /// So many zeros.

@@ -1,8 +1,8 @@
 //! The tables as one line of JSON, and back: an object of seventeen lists of whole numbers.
 
-use crate::script::Quoted;
 use std::fmt;
 use std::str::{self, FromStr};
+use text_form::Quoted;
 use tolbezun::Tables;
 
 /// Has the functions of this module written out for the tables of these names, in this order.

@@ -1,12 +1,16 @@
 //! A script runner: reads calls one to a line and answers each with a line.
 //!
-//! [`script`] says what the lines are, [`answer`] what is answered. The calls are those of the crate
-//! `tolbezun`, on tables that the runner keeps from line to line.
+//! [`script`] says what the lines are, [`answer`] what is answered, [`explain`] what may follow an
+//! answer. The calls are those of the crate `tolbezun`, on tables that the runner keeps from line to
+//! line.
 //!
 //! ```
+//! use calls::Options;
+//!
 //! let script = "set_up\ntake_in 10 01000000070000000d00000022000000\ndrain\ncurrent 34\n";
+//! let options = Options { n: 128, explain: false };
 //! let mut answers = Vec::new();
-//! calls::run(128, script.as_bytes(), &mut answers).expect("every line can be read");
+//! calls::run(options, script.as_bytes(), &mut answers).expect("every line can be read");
 //! assert_eq!(answers, b"done\ndone\ndone by console {\"40\": 1}\nvalue 7\n");
 //! ```
 
@@ -14,13 +18,24 @@
 #![warn(missing_docs)]
 
 pub mod answer;
+pub mod explain;
 pub mod json;
 pub mod script;
 
 use answer::Runner;
+use script::Unreadable;
 use std::error::Error;
 use std::fmt;
 use std::io::{self, BufRead, Write};
+
+/// How a script is carried out.
+#[derive(Clone, Copy, Debug, PartialEq, Eq)]
+pub struct Options {
+    /// The capacity.
+    pub n: usize,
+    /// Whether an answer is followed by the lines that explain it.
+    pub explain: bool,
+}
 
 /// Why the rest of a script is not carried out.
 #[derive(Debug)]
@@ -28,7 +43,7 @@ pub enum Stop {
     /// A line cannot be read.
     Line {
         /// The number of the line, counted from 1.
-        number: u64,
+        number: usize,
         /// What is wrong with it.
         why: Box<dyn Error>,
     },
@@ -47,10 +62,21 @@ impl fmt::Display for Stop {
 
 impl Error for Stop {}
 
-/// Carries out a script with this capacity, line by line. An answer is written, and flushed, before
-/// the next line is read.
-pub fn run(n: usize, mut input: impl BufRead, mut output: impl Write) -> Result<(), Stop> {
+impl From<Unreadable> for Stop {
+    fn from(Unreadable { line, error }: Unreadable) -> Self {
+        Self::Line {
+            number: line,
+            why: error.into(),
+        }
+    }
+}
+
+/// Carries out a script line by line. An answer is written, and flushed, before the next line is
+/// read.
+pub fn run(options: Options, mut input: impl BufRead, mut output: impl Write) -> Result<(), Stop> {
+    let Options { n, explain } = options;
     let mut runner = Runner::new(n);
+    let mut reader = script::Reader::default();
     let mut line = Vec::new();
     for number in 1.. {
         let unreadable = |why| Stop::Line { number, why };
@@ -60,12 +86,18 @@ pub fn run(n: usize, mut input: impl BufRead, mut output: impl Write) -> Result<
             break;
         }
         let text = line.strip_suffix(b"\n").unwrap_or(&line);
-        let call = script::read(text).map_err(|error| unreadable(error.into()))?;
-        let Some(call) = call else { continue };
+        let Some(call) = reader.read(number, text)? else {
+            continue;
+        };
+        let before = explain.then(|| runner.tables().clone());
         let answer = runner.answer(&call);
         let answer = answer.map_err(|error| unreadable(error.into()))?;
-        let written = writeln!(output, "{answer}").and_then(|()| output.flush());
+        let explanation = match before {
+            Some(before) => explain::lines(n, before, &call, &answer, runner.tables()),
+            None => String::new(),
+        };
+        let written = write!(output, "{answer}\n{explanation}").and_then(|()| output.flush());
         written.map_err(Stop::Output)?;
     }
-    Ok(())
+    Ok(reader.finish()?)
 }

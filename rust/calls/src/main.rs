@@ -2,28 +2,33 @@
 
 #![forbid(unsafe_code)]
 
-use calls::Stop;
+use calls::{Options, Stop};
 use std::env;
 use std::ffi::OsString;
 use std::fs::File;
 use std::io::{self, BufReader, Write};
+use std::mem;
 use std::process::ExitCode;
 
 /// The capacity, unless `--n` gives another.
 const CAPACITY: usize = 128;
 
-const USAGE: &str = "usage: calls [--n N] [FILE]";
+const USAGE: &str = "usage: calls [--n N] [--explain] [FILE]";
 
 const HELP: &str = r#"
 Carries out calls, one to a line, on the proved change history of a cabinet, and
 prints one answer line each. The lines come from FILE or from standard input.
 
-  --n N    the capacity of the tables (128)
-  --help   prints this text
+  --n N      the capacity of the tables (128)
+  --explain  prints more lines, which begin with #: after the answer of a turn, a
+             drain, a withdrawal or a package what it did and why, after a refusal
+             its reason
+  --help     prints this text
 
 line                        answer, where it is not `refused R`
 set_up                      done
 take_in TS HEX [VERSION]    done, held
+take_in TS [version V] {    the same; the lines up to } are the program in words
 withdraw TS                 done
 turn                        idle, ran TS, stood TS, cleared TS, faulted TS PLACE
 drain [lenL]                done by console {"P": T, ..}, the totals that are not 0
@@ -38,8 +43,9 @@ start_values                done [v, v, ..], the value that each setting starts 
 tables                      the tables, one line of JSON
 load FILE                   done; FILE has tables as `tables` prints them
 
-TS is a timestamp, S a setting, HEX bytes as pairs of hexadecimal digits, or - for
-none. VERSION is 0 unless it is given; a program of version 1 may read and write
+TS is a timestamp, S a setting, by its number or by its name, as in port 2 power, HEX
+bytes as pairs of hexadecimal digits, or - for none; `package --help` has programs in
+words. VERSION is 0 unless it is given; a program of version 1 may read and write
 again what it has written. PLACE is that of the instruction that broke off, counted
 from 0. P is 4 x the console of a change, the lowest 8 bits of its TS, + 0 ran, 1
 stood, 2 cleared, 3 faulted; T is the number of such turns. With lenL a slice of L
@@ -54,7 +60,10 @@ arguments with status 2.
 /// What the arguments ask for.
 enum Command {
     Help,
-    Run { n: usize, file: Option<OsString> },
+    Run {
+        options: Options,
+        file: Option<OsString>,
+    },
 }
 
 fn main() -> ExitCode {
@@ -64,17 +73,21 @@ fn main() -> ExitCode {
             let printed = write!(output, "{USAGE}\n{HELP}").and_then(|()| output.flush());
             end(printed.map_err(Stop::Output), "")
         }
-        Ok(Command::Run { n, file: None }) => {
-            end(calls::run(n, io::stdin().lock(), io::stdout().lock()), "")
+        Ok(Command::Run {
+            options,
+            file: None,
+        }) => {
+            let ended = calls::run(options, io::stdin().lock(), io::stdout().lock());
+            end(ended, "")
         }
         Ok(Command::Run {
-            n,
+            options,
             file: Some(file),
         }) => {
             let name = file.display();
             match File::open(&file) {
                 Ok(input) => {
-                    let ended = calls::run(n, BufReader::new(input), io::stdout().lock());
+                    let ended = calls::run(options, BufReader::new(input), io::stdout().lock());
                     end(ended, &format!("{name}: "))
                 }
                 Err(error) => {
@@ -92,7 +105,7 @@ fn main() -> ExitCode {
 
 /// What the arguments ask for, or what is wrong with them.
 fn command(mut arguments: impl Iterator<Item = OsString>) -> Result<Command, String> {
-    let (mut n, mut file) = (None, None);
+    let (mut n, mut explain, mut file) = (None, false, None);
     while let Some(argument) = arguments.next() {
         if argument == "--help" {
             return Ok(Command::Help);
@@ -103,6 +116,10 @@ fn command(mut arguments: impl Iterator<Item = OsString>) -> Result<Command, Str
             if n.replace(capacity).is_some() {
                 return Err("--n is given twice".to_string());
             }
+        } else if argument == "--explain" {
+            if mem::replace(&mut explain, true) {
+                return Err("--explain is given twice".to_string());
+            }
         } else if argument.as_encoded_bytes().starts_with(b"-") {
             return Err(format!("there is no option {}", argument.display()));
         } else if let Some(first) = file.replace(argument) {
@@ -110,7 +127,8 @@ fn command(mut arguments: impl Iterator<Item = OsString>) -> Result<Command, Str
         }
     }
     let n = n.unwrap_or(CAPACITY);
-    Ok(Command::Run { n, file })
+    let options = Options { n, explain };
+    Ok(Command::Run { options, file })
 }
 
 /// A number in decimal digits alone.

@@ -2,12 +2,14 @@
 //!
 //! A line is a call: its name and its arguments, separated by blanks (spaces or tabs). Empty lines,
 //! and lines that start with `#`, are passed over. Blanks may stand before and after a call, and a
-//! carriage return at the end of a line does not count.
+//! carriage return at the end of a line does not count. A program may be given in words, on lines of
+//! their own from `{` to `}`.
 //!
 //! | line | call |
 //! |---|---|
 //! | `set_up` | set up |
 //! | `take_in TS HEX [VERSION]` | take in the change with this timestamp, program and version |
+//! | `take_in TS [version VERSION] {` | likewise; the lines up to `}` are the program in words |
 //! | `withdraw TS` | withdraw |
 //! | `turn` | turn |
 //! | `drain [lenL]` | drain |
@@ -23,12 +25,16 @@
 //! | `load FILE` | no call: the calls after it are lent the tables of this file |
 //!
 //! `TS` is a number of 64 bits, `VERSION` one of 16, `S` and `L` are numbers of the machine's size,
-//! all in decimal digits alone. `HEX` is the bytes as pairs of hexadecimal digits, or `-` for none. A
-//! change has version 0 unless its line gives another. A drain is lent 1,024 totals and take in a
-//! package 512 answers; with `lenL`, for example `len511`, a slice of that length is lent instead.
+//! all in decimal digits alone; `S` may be a port and a field as well, for example `port 2 power`.
+//! `HEX` is the bytes as pairs of hexadecimal digits, or `-` for none. A change has version 0 unless its
+//! line gives another. A drain is lent 1,024 totals and take in a package 512 answers; with `lenL`, for
+//! example `len511`, a slice of that length is lent instead. [`text_form::program`] has the lines of a
+//! program in words; there, and behind `{` and `}`, a comment may follow on the same line.
 
 use std::fmt;
+use std::mem;
 use std::str::{self, FromStr};
+use text_form::{program, Quoted, Setting};
 
 /// What a line asks for.
 #[derive(Clone, Debug, PartialEq, Eq)]
@@ -100,6 +106,12 @@ pub enum Error {
     NotADigit(char),
     /// Not `len` and a length.
     NotALength(String),
+    /// Not a setting by port and field.
+    NotASetting(text_form::Error),
+    /// A program in words cannot be read.
+    Words(text_form::Error),
+    /// The script ends before the `}` of a program in words.
+    Open,
 }
 
 impl fmt::Display for Error {
@@ -123,41 +135,143 @@ impl fmt::Display for Error {
             Self::NotALength(word) => {
                 write!(f, "lenL is not len and a length: {}", Quoted(word))
             }
+            Self::NotASetting(error) => write!(f, "S is not a setting: {}", error.mismatch()),
+            Self::Words(error) => write!(f, "column {}: {}", error.column, error.mismatch()),
+            Self::Open => f.write_str("no } ends the program that begins here"),
         }
     }
 }
 
 impl std::error::Error for Error {}
 
-/// Shows a word in quotes, and of a long one the beginning.
-pub(crate) struct Quoted<'a>(pub &'a str);
+/// Why a script cannot be read, and the line, counted from 1.
+#[derive(Clone, Debug, PartialEq, Eq)]
+#[allow(missing_docs)]
+pub struct Unreadable {
+    pub line: usize,
+    pub error: Error,
+}
 
-impl fmt::Display for Quoted<'_> {
-    fn fmt(&self, f: &mut fmt::Formatter<'_>) -> fmt::Result {
-        match self.0.char_indices().nth(40) {
-            None => write!(f, "{:?}", self.0),
-            Some((end, _)) => write!(f, "{:?}..", &self.0[..end]),
+/// Reads a script line by line.
+#[derive(Debug, Default)]
+pub struct Reader {
+    open: Option<Block>,
+}
+
+/// A taking in whose program is being read in words.
+#[derive(Debug)]
+struct Block {
+    /// The line that has `{`.
+    line: usize,
+    timestamp: u64,
+    version: u16,
+    program: program::Reader,
+}
+
+impl Reader {
+    /// Reads the line of this number, without its newline. There is no call on an empty line, on a
+    /// comment, and on a line of a program in words before its `}`.
+    pub fn read(&mut self, number: usize, line: &[u8]) -> Result<Option<Call>, Unreadable> {
+        if let Some(block) = &mut self.open {
+            let call = block.read(number, line).map_err(|error| Unreadable {
+                line: error.line,
+                error: Error::Words(error),
+            })?;
+            if call.is_some() {
+                self.open = None;
+            }
+            return Ok(call);
+        }
+        let line = read(line).map_err(|error| Unreadable {
+            line: number,
+            error,
+        })?;
+        match line {
+            Line::Empty => Ok(None),
+            Line::Call(call) => Ok(Some(call)),
+            Line::Opening { timestamp, version } => {
+                self.open = Some(Block {
+                    line: number,
+                    timestamp,
+                    version,
+                    program: program::Reader::default(),
+                });
+                Ok(None)
+            }
+        }
+    }
+
+    /// The script ends here.
+    pub fn finish(self) -> Result<(), Unreadable> {
+        match self.open {
+            None => Ok(()),
+            Some(block) => Err(Unreadable {
+                line: block.line,
+                error: Error::Open,
+            }),
         }
     }
 }
 
-/// Reads a line without its newline. There is no call on an empty line or a comment.
-pub fn read(line: &[u8]) -> Result<Option<Call>, Error> {
+impl Block {
+    /// Reads a line of the program. With `}` the call is whole.
+    fn read(&mut self, number: usize, line: &[u8]) -> Result<Option<Call>, text_form::Error> {
+        if !closes(line) {
+            self.program.read_line(number, line)?;
+            return Ok(None);
+        }
+        let program = mem::take(&mut self.program).finish()?;
+        Ok(Some(Call::TakeIn {
+            timestamp: self.timestamp,
+            program: program.into_flattened(),
+            version: self.version,
+        }))
+    }
+}
+
+/// Whether a line is the `}` that ends a program in words.
+fn closes(line: &[u8]) -> bool {
+    let before_comment = line.split(|&byte| byte == b'#').next();
+    before_comment.is_some_and(|text| text.trim_ascii() == b"}")
+}
+
+/// What a line is by itself.
+#[derive(Clone, Debug, PartialEq, Eq)]
+enum Line {
+    /// An empty line or a comment.
+    Empty,
+    Call(Call),
+    /// A taking in whose program follows in words.
+    Opening {
+        timestamp: u64,
+        version: u16,
+    },
+}
+
+/// Reads a line without its newline.
+fn read(line: &[u8]) -> Result<Line, Error> {
     let line = str::from_utf8(line).map_err(|_| Error::NotText)?;
     let line = line.strip_suffix('\r').unwrap_or(line);
     let mut words = line.split([' ', '\t']).filter(|word| !word.is_empty());
     let name = match words.next() {
         Some(word) if !word.starts_with('#') => word,
-        _ => return Ok(None),
+        _ => return Ok(Line::Empty),
     };
     let mut arguments = Arguments(words);
     let call = match name {
         "set_up" => Call::SetUp,
-        "take_in" => Call::TakeIn {
-            timestamp: arguments.timestamp()?,
-            program: arguments.bytes()?,
-            version: arguments.version()?,
-        },
+        "take_in" => {
+            let timestamp = arguments.timestamp()?;
+            let word = arguments.word("HEX")?;
+            if let Some(version) = arguments.opening(word)? {
+                return Ok(Line::Opening { timestamp, version });
+            }
+            Call::TakeIn {
+                timestamp,
+                program: bytes(word)?,
+                version: arguments.version()?,
+            }
+        }
         "withdraw" => Call::Withdraw {
             timestamp: arguments.timestamp()?,
         },
@@ -179,7 +293,7 @@ pub fn read(line: &[u8]) -> Result<Option<Call>, Error> {
             timestamp: arguments.timestamp()?,
         },
         "take_in_package" => Call::TakeInPackage {
-            package: arguments.bytes()?,
+            package: bytes(arguments.word("HEX")?)?,
             answers: arguments.lent()?,
         },
         "package_out" => Call::PackageOut {
@@ -193,10 +307,8 @@ pub fn read(line: &[u8]) -> Result<Option<Call>, Error> {
         },
         _ => return Err(Error::NoSuchCall(name.to_string())),
     };
-    match arguments.0.next() {
-        None => Ok(Some(call)),
-        Some(word) => Err(Error::TooMany(word.to_string())),
-    }
+    arguments.end()?;
+    Ok(Line::Call(call))
 }
 
 /// The words after the name.
@@ -211,23 +323,37 @@ impl<'a, W: Iterator<Item = &'a str>> Arguments<W> {
         number("TS", self.word("TS")?)
     }
 
+    /// A setting, which is the last argument: its number, or its port and field.
     fn setting(&mut self) -> Result<usize, Error> {
-        number("S", self.word("S")?)
+        let word = self.word("S")?;
+        if word != "port" {
+            return number("S", word);
+        }
+        let mut words = word.to_string();
+        for word in self.0.by_ref() {
+            words = words + " " + word;
+        }
+        let setting: Setting = words.parse().map_err(Error::NotASetting)?;
+        Ok(setting.number())
     }
 
-    fn bytes(&mut self) -> Result<Vec<u8>, Error> {
-        let word = self.word("HEX")?;
-        if word == "-" {
-            return Ok(Vec::new());
-        }
-        let digit = |character: char| match character.to_digit(16) {
-            Some(digit) => Ok(digit as u8),
-            None => Err(Error::NotADigit(character)),
+    /// The version of a taking in whose program follows in words, if this word and the next ones open
+    /// such a one.
+    fn opening(&mut self, word: &str) -> Result<Option<u16>, Error> {
+        let version = match word {
+            "{" => 0,
+            "version" => {
+                let version = number("VERSION", self.word("VERSION")?)?;
+                match self.0.next() {
+                    Some("{") => version,
+                    _ => return Err(Error::Missing("{")),
+                }
+            }
+            _ => return Ok(None),
         };
-        let digits: Vec<u8> = word.chars().map(digit).collect::<Result<_, _>>()?;
-        match digits.as_chunks() {
-            (pairs, []) => Ok(pairs.iter().map(|[high, low]| 16 * high + low).collect()),
-            _ => Err(Error::OddDigits),
+        match self.0.next() {
+            Some(word) if !word.starts_with('#') => Err(Error::TooMany(word.to_string())),
+            _ => Ok(Some(version)),
         }
     }
 
@@ -249,6 +375,30 @@ impl<'a, W: Iterator<Item = &'a str>> Arguments<W> {
             Some(length) => number("the L of lenL", length).map(Some),
             None => Err(Error::NotALength(word.to_string())),
         }
+    }
+
+    /// There are no more.
+    fn end(&mut self) -> Result<(), Error> {
+        match self.0.next() {
+            None => Ok(()),
+            Some(word) => Err(Error::TooMany(word.to_string())),
+        }
+    }
+}
+
+/// The bytes that a word gives.
+fn bytes(word: &str) -> Result<Vec<u8>, Error> {
+    if word == "-" {
+        return Ok(Vec::new());
+    }
+    let digit = |character: char| match character.to_digit(16) {
+        Some(digit) => Ok(digit as u8),
+        None => Err(Error::NotADigit(character)),
+    };
+    let digits: Vec<u8> = word.chars().map(digit).collect::<Result<_, _>>()?;
+    match digits.as_chunks() {
+        (pairs, []) => Ok(pairs.iter().map(|[high, low]| 16 * high + low).collect()),
+        _ => Err(Error::OddDigits),
     }
 }
 

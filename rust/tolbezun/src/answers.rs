@@ -79,7 +79,7 @@ impl Refusal {
 impl fmt::Display for Refusal {
     fn fmt(&self, f: &mut fmt::Formatter<'_>) -> fmt::Result {
         let reason = match self {
-            Self::Length => "a table has another length than its capacity asks, or the capacity is outside 1 to 4,096",
+            Self::Length => "a lent slice has another length than stated, or the capacity is outside 1 to 4,096",
             Self::Form => "the tables are not in form",
             Self::Package => "the package breaks its layout or length",
             Self::Timestamp => "the timestamp is out of range",

@@ -2,6 +2,18 @@
 //! they run: document 02, R-6.
 
 use crate::answers::Refusal;
+use crate::tables::SETTINGS;
+use std::error::Error;
+use std::fmt;
+
+/// The number of registers.
+pub const REGISTERS: u8 = 8;
+
+/// The highest n of [`Instruction::ShiftRight`].
+pub const MAX_SHIFT: i32 = 31;
+
+/// The most instructions that a program has.
+pub const MAX_INSTRUCTIONS: usize = 32;
 
 /// An instruction. `a`, `b` and `c` are registers, 0 to 7.
 ///
@@ -77,7 +89,156 @@ impl Instruction {
         let [n0, n1, n2, n3] = n.to_le_bytes();
         [operation, a, b, c, n0, n1, n2, n3]
     }
+
+    /// The instruction of these 8 bytes, behind which the program has `following` more, or what is
+    /// wrong with it.
+    ///
+    /// ```
+    /// use tolbezun::{Instruction, Mistake};
+    ///
+    /// let skip = Instruction::Skip { n: 2 };
+    /// assert_eq!(Instruction::from_bytes(skip.to_bytes(), 2), Ok(skip));
+    /// let too_far = Mistake::Skip { n: 2, following: 1 };
+    /// assert_eq!(Instruction::from_bytes(skip.to_bytes(), 1), Err(too_far));
+    /// ```
+    pub fn from_bytes(bytes: [u8; 8], following: usize) -> Result<Self, Mistake> {
+        let [operation, a, b, c, n0, n1, n2, n3] = bytes;
+        let n = i32::from_le_bytes([n0, n1, n2, n3]);
+        let register = |part, register| match register < REGISTERS {
+            true => Ok(register),
+            false => Err(Mistake::Register { part, register }),
+        };
+        let (a, b, c) = (
+            || register('a', a),
+            || register('b', b),
+            || register('c', c),
+        );
+        let shift = || match n {
+            0..=MAX_SHIFT => Ok(n),
+            _ => Err(Mistake::Shift(n)),
+        };
+        let setting = || match usize::try_from(n) {
+            Ok(number) if number < SETTINGS => Ok(n),
+            _ => Err(Mistake::Setting(n)),
+        };
+        let skip = || match usize::try_from(n) {
+            Ok(distance) if distance <= following => Ok(n),
+            _ => Err(Mistake::Skip { n, following }),
+        };
+        let instruction = match operation {
+            0 => Self::Stop,
+            1 => Self::Constant { a: a()?, n },
+            2 => Self::Copy { a: a()?, b: b()? },
+            3 => Self::Add {
+                a: a()?,
+                b: b()?,
+                c: c()?,
+            },
+            4 => Self::Subtract {
+                a: a()?,
+                b: b()?,
+                c: c()?,
+            },
+            5 => Self::Negate { a: a()?, b: b()? },
+            6 => Self::ShiftRight {
+                a: a()?,
+                b: b()?,
+                n: shift()?,
+            },
+            7 => Self::CountOnes { a: a()?, b: b()? },
+            8 => Self::And {
+                a: a()?,
+                b: b()?,
+                c: c()?,
+            },
+            9 => Self::Or {
+                a: a()?,
+                b: b()?,
+                c: c()?,
+            },
+            10 => Self::Xor {
+                a: a()?,
+                b: b()?,
+                c: c()?,
+            },
+            11 => Self::Read {
+                a: a()?,
+                setting: setting()?,
+            },
+            12 => Self::ReadIndexed { a: a()?, b: b()? },
+            13 => Self::Write {
+                a: a()?,
+                setting: setting()?,
+            },
+            14 => Self::WriteIndexed { a: a()?, b: b()? },
+            15 => Self::SkipIfNegative {
+                b: b()?,
+                n: skip()?,
+            },
+            16 => Self::SkipIfZero {
+                b: b()?,
+                n: skip()?,
+            },
+            17 => Self::Skip { n: skip()? },
+            _ => return Err(Mistake::Operation(operation)),
+        };
+        // Its own bytes have 0 in the parts that it does not use.
+        match instruction.unlike(bytes) {
+            None => Ok(instruction),
+            Some(part) => Err(Mistake::Unused(part)),
+        }
+    }
+
+    /// The first part that these bytes of the same operation have other than the instruction.
+    fn unlike(self, bytes: [u8; 8]) -> Option<char> {
+        let own = self.to_bytes();
+        let place = (0..8).find(|&place| own[place] != bytes[place])?;
+        Some(match place {
+            1 => 'a',
+            2 => 'b',
+            3 => 'c',
+            _ => 'n',
+        })
+    }
 }
+
+/// What is wrong with an instruction: document 01, refusal 7.
+#[derive(Clone, Copy, Debug, PartialEq, Eq, Hash)]
+#[allow(missing_docs)]
+pub enum Mistake {
+    /// No operation has this number.
+    Operation(u8),
+    /// This part, a, b or c, is no register.
+    Register { part: char, register: u8 },
+    /// The n of a shift is outside 0 to 31.
+    Shift(i32),
+    /// There is no setting n.
+    Setting(i32),
+    /// A skip goes back or past the end: so many instructions follow.
+    Skip { n: i32, following: usize },
+    /// The operation does not use this part, a, b, c or n, and it is not 0.
+    Unused(char),
+}
+
+impl fmt::Display for Mistake {
+    fn fmt(&self, f: &mut fmt::Formatter<'_>) -> fmt::Result {
+        match self {
+            Self::Operation(number) => write!(f, "there is no operation {number}"),
+            Self::Register { part, register } => {
+                write!(f, "{part} is {register}, and registers are 0 to 7")
+            }
+            Self::Shift(n) => write!(f, "n is {n}, and 0 to {MAX_SHIFT} is right"),
+            Self::Setting(n) => write!(f, "there is no setting {n}"),
+            Self::Skip { n, following } => {
+                let most = "as many instructions as follow";
+                write!(f, "n is {n}, and 0 to {following} is right, {most}")
+            }
+            Self::Unused(part) => write!(f, "{part} is not used, and it is not 0"),
+        }
+    }
+}
+
+impl Error for Mistake {}
 
 /// The rules that a program runs by.
 ///

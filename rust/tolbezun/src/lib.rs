@@ -70,5 +70,7 @@ mod tables;
 
 pub use answers::{console, Refusal, Standing, Status, Taken, Totals, TotalsByConsole, Turned};
 pub use cabinet::{start_values, Cabinet};
-pub use instruction::{program, Instruction, Version};
-pub use tables::{setting, Tables, MAX_CAPACITY, SETTINGS};
+pub use instruction::{
+    program, Instruction, Mistake, Version, MAX_INSTRUCTIONS, MAX_SHIFT, REGISTERS,
+};
+pub use tables::{setting, Tables, FIELDS, MAX_CAPACITY, PORTS, SETTINGS};

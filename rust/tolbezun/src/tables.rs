@@ -6,8 +6,11 @@ pub const MAX_CAPACITY: usize = 4_096;
 /// The number of settings.
 pub const SETTINGS: usize = 1_024;
 
+/// The number of ports.
+pub const PORTS: usize = SETTINGS / FIELDS;
+
 /// The number of fields of a port.
-const FIELDS: usize = 16;
+pub const FIELDS: usize = 16;
 
 /// The bytes that a place has for its program.
 const PROGRAM_BYTES: usize = 256;

@@ -1,8 +1,8 @@
-use super::{read, Call, Error};
+use super::{read, Call, Error, Line, Reader, Unreadable};
 
 #[track_caller]
 fn assert_read(line: &str, call: Call) {
-    assert_eq!(read(line.as_bytes()), Ok(Some(call)), "{line:?}");
+    assert_eq!(read(line.as_bytes()), Ok(Line::Call(call)), "{line:?}");
 }
 
 /// The message for a line that cannot be read.
@@ -104,7 +104,7 @@ fn empty_lines_and_comments_are_passed_over() {
     for line in [
         "", " ", "\t \t", "\r", "  \r", "#", "# turn", "#turn", "  # turn", "\t#\r", "# é",
     ] {
-        assert_eq!(read(line.as_bytes()), Ok(None), "{line:?}");
+        assert_eq!(read(line.as_bytes()), Ok(Line::Empty), "{line:?}");
     }
 }
 
@@ -174,6 +174,145 @@ fn bytes_are_pairs_of_digits_of_either_case() {
                 },
             );
         }
+    }
+}
+
+#[test]
+fn settings_by_port_and_field() {
+    for (words, setting) in [
+        ("port 2 power", 36),
+        ("port 2 field 4", 36),
+        ("port  63\tmask 7", 1_023),
+        ("port 0 field 0", 0),
+    ] {
+        assert_read(&format!("current {words}"), Call::CurrentValue { setting });
+        assert_read(
+            &format!("value_as_of 15 {words} "),
+            Call::ValueAsOf {
+                timestamp: 15,
+                setting,
+            },
+        );
+    }
+    for (words, why) in [
+        (
+            "port",
+            r#"expected a port from 0 to 63, found the end of the line"#,
+        ),
+        (
+            "port 64 vlan",
+            r#"expected a port from 0 to 63, found "64""#,
+        ),
+        ("port 2 mask 8", r#"expected a mask from 0 to 7, found "8""#),
+        (
+            "port 2 vlan 1",
+            r#"expected the end of the line, found "1""#,
+        ),
+    ] {
+        let expected = format!("S is not a setting: {why}");
+        assert_eq!(message(&format!("current {words}")), expected);
+        assert_eq!(message(&format!("value_as_of 15 {words}")), expected);
+    }
+}
+
+/// Reads lines, numbered from 1, up to the first call, and how many lines were read.
+fn read_lines(lines: &str) -> Result<(Option<Call>, usize), Unreadable> {
+    let mut reader = Reader::default();
+    for (number, line) in (1..).zip(lines.split('\n')) {
+        if let Some(call) = reader.read(number, line.as_bytes())? {
+            return Ok((Some(call), number));
+        }
+    }
+    reader.finish().map(|()| (None, 0))
+}
+
+#[test]
+fn programs_in_words() {
+    let stop = vec![0; 8];
+    for (lines, version, program, last) in [
+        ("take_in 20 {\n}", 0, vec![], 2),
+        ("take_in 20 {\n stop\n}\nturn", 0, stop.clone(), 3),
+        ("take_in 20 version 1 {\nstop\n}", 1, stop.clone(), 3),
+        (
+            "take_in 20 version 65535 {\nstop\n}",
+            u16::MAX,
+            stop.clone(),
+            3,
+        ),
+        (
+            "# one\n\n\ttake_in\t20 { # two }\r\n\n#}\nstop # three }\r\n end:\n } # four\r\n",
+            0,
+            stop,
+            8,
+        ),
+    ] {
+        let call = Call::TakeIn {
+            timestamp: 20,
+            program,
+            version,
+        };
+        assert_eq!(read_lines(lines), Ok((Some(call), last)), "{lines:?}");
+    }
+    // After one there may be another.
+    let mut reader = Reader::default();
+    for (number, (line, is_call)) in (1..).zip([
+        ("take_in 1 {", false),
+        ("skip to on", false),
+        ("on:", false),
+        ("}", true),
+        ("take_in 2 {", false),
+        ("on:", false),
+        ("}", true),
+        ("turn", true),
+    ]) {
+        let call = reader.read(number, line.as_bytes());
+        assert_eq!(call.map(|call| call.is_some()), Ok(is_call), "{line}");
+    }
+    assert_eq!(reader.finish(), Ok(()));
+}
+
+#[test]
+fn programs_in_words_that_cannot_be_read() {
+    for (lines, line, message) in [
+        ("turn {", 1, r#""{" is a word too many"#),
+        ("take_in {", 1, r#"TS is not a number in decimal digits: "{""#),
+        ("take_in 20{", 1, r#"TS is not a number in decimal digits: "20{""#),
+        ("take_in 20 { }", 1, r#""}" is a word too many"#),
+        ("take_in 20 version", 1, "VERSION is missing"),
+        ("take_in 20 version 1", 1, "{ is missing"),
+        ("take_in 20 version 1 00", 1, "{ is missing"),
+        ("take_in 20 version 1 { 1", 1, r#""1" is a word too many"#),
+        (
+            "take_in 20 version x {",
+            1,
+            r#"VERSION is not a number in decimal digits: "x""#,
+        ),
+        (
+            "\ntake_in 20 {\nstop\n  return\n}",
+            4,
+            "column 3: expected an instruction (\"stop\", \"skip\", \"if\", \"setting\", \"port\" or \
+             a register r0 to r7) or a label and \":\", found \"return\"",
+        ),
+        (
+            "take_in 20 {\nskip to there\nstop\n}",
+            2,
+            r#"column 9: expected a label further down, found "there""#,
+        ),
+        (
+            "take_in 20 {\nchange 30\n}",
+            2,
+            "column 1: expected an instruction (\"stop\", \"skip\", \"if\", \"setting\", \"port\" or \
+             a register r0 to r7) or a label and \":\", found \"change\"",
+        ),
+        (
+            "# a comment\ntake_in 20 {\nstop",
+            2,
+            "no } ends the program that begins here",
+        ),
+    ] {
+        let unreadable = read_lines(lines).expect_err("it cannot be read");
+        assert_eq!(unreadable.error.to_string(), message, "{lines:?}");
+        assert_eq!(unreadable.line, line, "{lines:?}");
     }
 }
 

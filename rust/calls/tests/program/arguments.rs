@@ -9,7 +9,7 @@ use outside::tables::Tables;
 #[track_caller]
 fn assert_wrong(arguments: &[&str], message: &str) {
     let output = run(arguments, b"turn\n");
-    let usage = "usage: calls [--n N] [FILE]";
+    let usage = "usage: calls [--n N] [--explain] [FILE]";
     assert_eq!(text(&output.stderr), format!("{message}\n{usage}\n"));
     assert_eq!(text(&output.stdout), "");
     assert_eq!(output.status.code(), Some(2));
@@ -96,15 +96,45 @@ fn the_script_may_be_a_file() {
 }
 
 #[test]
+fn explanations_are_asked_for() {
+    write_file("explain.calls", take_in(10, set(34, 7)) + "\nturn\nturn");
+    let answers = "done\nran 10\nidle\n";
+    let explained = "\
+done
+ran 10
+# 10 ran: it is New
+#   changed port 2 vlan from 1 to 7
+idle
+# no change is New or Invalid
+";
+    assert_eq!(printed(&["explain.calls"], ""), answers);
+    for arguments in [
+        &["--explain", "explain.calls"][..],
+        &["explain.calls", "--explain"],
+        &["--explain", "--n", "1", "explain.calls"],
+        &["--n", "1", "explain.calls", "--explain"],
+    ] {
+        assert_eq!(printed(arguments, "turn"), explained);
+    }
+    let full = "# refused 9: the tables are full";
+    let printed = printed(&["--n", "1", "--explain"], "take_in 10 -\ntake_in 20 -");
+    assert_eq!(printed, format!("done\nrefused 9\n{full}\n"));
+}
+
+#[test]
 fn help() {
     for arguments in [
         &["--help"][..],
         &["--n", "5", "--help"],
         &["file", "--help"],
+        &["--explain", "--help"],
     ] {
         let help = printed(arguments, "turn\n");
-        assert!(help.starts_with("usage: calls [--n N] [FILE]\n\n"));
+        assert!(help.starts_with("usage: calls [--n N] [--explain] [FILE]\n\n"));
         for name in [
+            "  --n N",
+            "  --explain",
+            "  --help",
             "set_up",
             "take_in TS HEX [VERSION]",
             "withdraw TS",
@@ -137,6 +167,9 @@ fn wrong_arguments() {
         assert_wrong(&["--n", number], &message);
     }
     assert_wrong(&["--n", "5", "--n", "5"], "--n is given twice");
+    let twice = ["--explain", "file", "--explain"];
+    assert_wrong(&twice, "--explain is given twice");
+    assert_wrong(&["--explain=yes"], "there is no option --explain=yes");
     assert_wrong(&["-n", "5"], "there is no option -n");
     assert_wrong(&["--n=5"], "there is no option --n=5");
     assert_wrong(&["-"], "there is no option -");

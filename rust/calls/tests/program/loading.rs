@@ -3,9 +3,10 @@
 use crate::outside_tables;
 use crate::programs::{copy, package_of_versions, set, take_in, take_in_version};
 use crate::{assert_answers, printed, write_file, FOLDER};
-use calls::answer::Runner;
+use calls::answer::{Answer, Runner};
 use calls::script::Call;
 use outside::tables::Tables;
+use tolbezun::Taken;
 
 /// A call of each of those that are lent tables.
 const CALLS: [&str; 12] = [
@@ -293,7 +294,7 @@ fn nothing_is_loaded_in_part() {
         program: vec![],
         version: 1,
     };
-    assert_eq!(answer(&call), Ok("done".to_string()));
+    assert_eq!(answer(&call), Ok(Answer::Taken(Taken::Done)));
     let before = answer(&Call::Tables);
     let whole = outside_tables::line(&Tables::new(2));
     for contents in [

@@ -3,12 +3,16 @@
 mod answers;
 mod arguments;
 mod cases;
+mod explained;
+mod lessons;
 mod loading;
+mod outside_explanations;
 mod outside_tables;
 mod programs;
 mod random;
 mod running;
 mod unreadable;
+mod words;
 
 use std::fs;
 use std::io::Write;

@@ -26,15 +26,15 @@ const LISTS_ON_ANY_TABLES: usize = 300;
 const CALLS: usize = 40;
 
 /// A script, and the answers that the outside implementation gives.
-struct Script {
-    n: usize,
-    tables: Tables,
-    lines: Vec<String>,
-    answers: Vec<String>,
+pub struct Script {
+    pub n: usize,
+    pub tables: Tables,
+    pub lines: Vec<String>,
+    pub answers: Vec<String>,
 }
 
 impl Script {
-    fn new(n: usize) -> Self {
+    pub fn new(n: usize) -> Self {
         Self {
             n,
             tables: Tables::new(n),
@@ -51,24 +51,24 @@ impl Script {
         });
     }
 
-    fn set_up(&mut self) {
+    pub fn set_up(&mut self) {
         let answer = set_up(self.n, &mut self.tables);
         self.push("set_up".to_string(), answer.map(|()| "done".to_string()));
     }
 
-    fn load(&mut self, file: &str, tables: Tables) {
+    pub fn load(&mut self, file: &str, tables: Tables) {
         write_file(file, outside_tables::file(&tables));
         self.tables = tables;
         self.push(format!("load {file}"), Ok("done".to_string()));
     }
 
-    fn print_tables(&mut self) {
+    pub fn print_tables(&mut self) {
         let answer = outside_tables::line(&self.tables);
         self.push("tables".to_string(), Ok(answer));
     }
 
     /// A call that may alter the tables.
-    fn make(&mut self, call: Call) {
+    pub fn make(&mut self, call: Call) {
         let (n, tables) = (self.n, &mut self.tables);
         match call {
             Call::TakeIn {
@@ -138,7 +138,7 @@ impl Script {
     }
 
     /// A call that only reads.
-    fn query(&mut self, random: &mut Random, source: &Source) {
+    pub fn query(&mut self, random: &mut Random, source: &Source) {
         let (n, tables) = (self.n, &self.tables);
         let (timestamp, setting) = (source.timestamp(random), source.setting(random));
         match random.below(13) {
@@ -355,7 +355,7 @@ fn alter<T: Clone>(random: &mut Random, table: &mut Vec<T>, any: impl Fn(u64) ->
     }
 }
 
-fn alter_some_table(random: &mut Random, tables: &mut Tables) {
+pub fn alter_some_table(random: &mut Random, tables: &mut Tables) {
     match random.below(17) {
         0 => alter(random, &mut tables.held, |bits| bits as u16),
         1 => alter(random, &mut tables.timestamps, |bits| bits),
