@@ -343,6 +343,23 @@ pub fn damage(random: &mut Random, program: &mut Vec<u8>) {
     }
 }
 
+/// Alters a byte of a text, adds one or takes one away, `times` times. Most often the new byte is one of
+/// `likely`.
+pub fn damage_text(random: &mut Random, text: &mut Vec<u8>, times: usize, likely: &[u8]) {
+    for _ in 0..times {
+        let place = random.below(text.len());
+        let byte = match random.below(4) {
+            0 => random.bits() as u8,
+            _ => random.pick(likely),
+        };
+        match random.below(3) {
+            0 => text[place] = byte,
+            1 => text.insert(place, byte),
+            _ => drop(text.remove(place)),
+        }
+    }
+}
+
 fn change_byte(random: &mut Random, program: &mut [u8], change: impl Fn(&mut Random, u8) -> u8) {
     if !program.is_empty() {
         let index = random.below(program.len());

@@ -17,9 +17,6 @@ const COUNT_BYTES: usize = 2;
 /// The bytes that an entry has in the contents.
 const ENTRY_BYTES: usize = 12;
 
-/// The bytes of an instruction.
-const INSTRUCTION_BYTES: usize = 8;
-
 /// An entry of a package.
 #[derive(Clone, Debug, PartialEq, Eq)]
 #[allow(missing_docs)]
@@ -64,23 +61,16 @@ impl Entry {
     }
 
     /// The number of the kind, and that of the version, which is 0 for a withdrawal.
-    fn numbers(&self) -> (u8, u8) {
+    fn numbers(&self) -> (u8, u16) {
         match self {
-            Self::Change {
-                version: Version::Zero,
-                ..
-            } => (0, 0),
-            Self::Change {
-                version: Version::One,
-                ..
-            } => (0, 1),
+            Self::Change { version, .. } => (0, version.number()),
             Self::Withdrawal { .. } => (1, 0),
         }
     }
 
     /// The bytes of the entry and of its program.
     fn length(&self) -> usize {
-        ENTRY_BYTES + INSTRUCTION_BYTES * self.program().len()
+        ENTRY_BYTES + self.program().as_flattened().len()
     }
 }
 
@@ -93,10 +83,11 @@ impl Display for Entry {
                 version,
                 program,
             } => {
-                match version {
-                    Version::Zero => writeln!(f, "change {timestamp}")?,
-                    Version::One => writeln!(f, "change {timestamp} version 1")?,
+                write!(f, "change {timestamp}")?;
+                if *version != Version::default() {
+                    write!(f, " version {}", version.number())?;
                 }
+                writeln!(f)?;
                 Listing(program).fmt(f)
             }
             Self::Withdrawal { timestamp } => writeln!(f, "withdraw {timestamp}"),
@@ -149,12 +140,13 @@ impl Package {
     pub fn from_bytes(package: &[u8]) -> Result<Self, Broken> {
         if package.len() > PACKAGE_BYTES {
             let found = format!("{} bytes", package.len());
-            return Err(broken(PACKAGE_BYTES, "at most 65535 bytes", found));
+            let expected = format_args!("at most {PACKAGE_BYTES} bytes");
+            return Err(broken(PACKAGE_BYTES, expected, found));
         }
         let mut bytes = Bytes { package, next: 0 };
         let count = u16::from_le_bytes(bytes.read("the number of entries, 2 bytes")?);
         if usize::from(count) > ANSWERS {
-            return Err(broken(0, "at most 512 entries", count));
+            return Err(broken(0, format_args!("at most {ANSWERS} entries"), count));
         }
         let heads: Vec<Head> = (0..count)
             .map(|index| Head::read(&mut bytes, index))
@@ -176,7 +168,9 @@ impl Package {
             let instructions = u8::try_from(instructions).expect("at most 32 instructions");
             let (kind, version) = entry.numbers();
             package.extend(entry.timestamp().to_le_bytes());
-            package.extend([kind, instructions, version, 0]);
+            // A version is one byte, and a zero byte follows.
+            package.extend([kind, instructions]);
+            package.extend(version.to_le_bytes());
         }
         for entry in &self.entries {
             package.extend(entry.program().as_flattened());
@@ -290,16 +284,19 @@ impl Builder {
         self.length += entry.length();
         self.entries.push(entry);
         if self.entries.len() > ANSWERS {
-            return Err(place.error("at most 512 entries", "one more"));
+            return Err(place.error(format_args!("at most {ANSWERS} entries"), "one more"));
         }
         let length = COUNT_BYTES + self.length;
         if length > PACKAGE_BYTES {
-            let expected = "a package of at most 65535 bytes";
+            let expected = format_args!("a package of at most {PACKAGE_BYTES} bytes");
             return Err(place.error(expected, format_args!("{length} with this entry")));
         }
         Ok(())
     }
 }
+
+/// What a version is called in errors.
+const VERSION: &str = "version 0 or 1";
 
 fn timestamp(line: &mut Line<'_>) -> Result<u64, Error> {
     line.number("a timestamp", u64::MAX)
@@ -308,15 +305,14 @@ fn timestamp(line: &mut Line<'_>) -> Result<u64, Error> {
 /// The version, which is 0 where the line gives none.
 fn version(line: &mut Line<'_>) -> Result<Version, Error> {
     if line.peek().is_none() {
-        return Ok(Version::Zero);
+        return Ok(Version::default());
     }
     if !line.take("version") {
         return Err(line.error(r#""version" or the end of the line"#));
     }
-    line.read("version 0 or 1", |text| match text {
-        "0" => Some(Version::Zero),
-        "1" => Some(Version::One),
-        _ => None,
+    line.read(VERSION, |text| {
+        let number: u16 = text.parse().ok()?;
+        Version::try_from(number).ok()
     })
 }
 
@@ -377,11 +373,13 @@ impl Head {
         };
         let version = match (kind, instructions, version) {
             (0, count, _) if usize::from(count) > MAX_INSTRUCTIONS => {
-                return wrong(9, "at most 32 instructions", instructions)
+                let expected = format!("at most {MAX_INSTRUCTIONS} instructions");
+                return wrong(9, &expected, instructions);
             }
-            (0, _, 0) => Some(Version::Zero),
-            (0, _, 1) => Some(Version::One),
-            (0, ..) => return wrong(10, "version 0 or 1", version),
+            (0, ..) => match Version::try_from(u16::from(version)) {
+                Ok(version) => Some(version),
+                Err(_) => return wrong(10, VERSION, version),
+            },
             (1, 0, 0) => None,
             (1, 0, _) => return wrong(10, "version 0, as it is a withdrawal,", version),
             (1, ..) => return wrong(9, "0 instructions, as it is a withdrawal,", instructions),

@@ -45,21 +45,21 @@ enum Read {
 /// A skip, which goes where the lines below tell.
 #[derive(Debug)]
 struct Skip {
-    test: Test,
-    to: To,
+    condition: Condition,
+    to: Destination,
     /// Where it is said how far it goes.
     said: Place,
 }
 
 /// When a skip is made.
 #[derive(Clone, Copy, Debug)]
-enum Test {
+enum Condition {
     Negative(u8),
     Zero(u8),
     Always,
 }
 
-impl Test {
+impl Condition {
     fn skip(self, n: i32) -> Instruction {
         match self {
             Self::Negative(b) => Instruction::SkipIfNegative { b, n },
@@ -71,7 +71,7 @@ impl Test {
 
 /// How far a skip goes.
 #[derive(Debug)]
-enum To {
+enum Destination {
     Count(usize),
     Label(String),
 }
@@ -84,18 +84,18 @@ impl Skip {
     fn finish(&self, place: usize, count: usize, labels: &Labels) -> Result<Instruction, Error> {
         let following = count - place - 1;
         let distance = match &self.to {
-            To::Count(distance) if *distance <= following => *distance,
-            To::Count(distance) => {
+            Destination::Count(distance) if *distance <= following => *distance,
+            Destination::Count(distance) => {
                 let expected = format!("at most {following}, as many instructions as follow");
                 return Err(self.said.error(expected, Quoted(&distance.to_string())));
             }
-            To::Label(name) => match labels.get(name) {
+            Destination::Label(name) => match labels.get(name) {
                 Some((_, target)) => target - place - 1,
                 None => return Err(self.said.error(LABEL, Quoted(name))),
             },
         };
         let n = i32::try_from(distance).expect("at most 32 instructions follow");
-        Ok(self.test.skip(n))
+        Ok(self.condition.skip(n))
     }
 }
 
@@ -156,18 +156,20 @@ impl Reader {
             return Ok(Read::Whole(Instruction::Stop));
         }
         if line.take("skip") {
-            return self.skip(line, Test::Always);
+            return self.skip(line, Condition::Always);
         }
         if line.take("if") {
             let b = line.register()?;
-            let test = match (line.take("<"), line.take("=")) {
-                (true, _) => Test::Negative(b),
-                (false, true) => Test::Zero(b),
-                (false, false) => return Err(line.error(r#""< 0" or "= 0""#)),
+            let condition = if line.take("<") {
+                Condition::Negative(b)
+            } else if line.take("=") {
+                Condition::Zero(b)
+            } else {
+                return Err(line.error(r#""< 0" or "= 0""#));
             };
             line.expect("0")?;
             line.expect("skip")?;
-            return self.skip(line, test);
+            return self.skip(line, condition);
         }
         let Some(target) = access(line)? else {
             return Err(line.error(format_args!(
@@ -183,13 +185,13 @@ impl Reader {
     }
 
     /// What stands behind `skip`.
-    fn skip(&self, line: &mut Line<'_>, test: Test) -> Result<Read, Error> {
+    fn skip(&self, line: &mut Line<'_>, condition: Condition) -> Result<Read, Error> {
         let by_label = line.take("to");
         let said = line.place();
         let to = match by_label {
             false if line.has_number() => {
                 let most = MAX_INSTRUCTIONS as u64;
-                To::Count(line.number("a number of instructions", most)? as usize)
+                Destination::Count(line.number("a number of instructions", most)? as usize)
             }
             false => return Err(line.error(r#"a number of instructions, or "to" and a label"#)),
             true => {
@@ -198,10 +200,14 @@ impl Reader {
                     let found = format!("{}, which line {above} has", Quoted(name));
                     return Err(said.error(LABEL, found));
                 }
-                To::Label(name.to_string())
+                Destination::Label(name.to_string())
             }
         };
-        Ok(Read::Skip(Skip { test, to, said }))
+        Ok(Read::Skip(Skip {
+            condition,
+            to,
+            said,
+        }))
     }
 }
 

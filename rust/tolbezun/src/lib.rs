@@ -73,4 +73,4 @@ pub use cabinet::{start_values, Cabinet};
 pub use instruction::{
     program, Instruction, Mistake, Version, MAX_INSTRUCTIONS, MAX_SHIFT, REGISTERS,
 };
-pub use tables::{setting, Tables, FIELDS, MAX_CAPACITY, PORTS, SETTINGS};
+pub use tables::{setting, Tables, FIELDS, LIST_ENTRIES, MAX_CAPACITY, PORTS, SETTINGS};

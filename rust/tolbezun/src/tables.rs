@@ -1,5 +1,7 @@
 //! The tables that a cabinet lends to each call.
 
+use crate::instruction::MAX_INSTRUCTIONS;
+
 /// The highest capacity.
 pub const MAX_CAPACITY: usize = 4_096;
 
@@ -13,10 +15,10 @@ pub const PORTS: usize = SETTINGS / FIELDS;
 pub const FIELDS: usize = 16;
 
 /// The bytes that a place has for its program.
-const PROGRAM_BYTES: usize = 256;
+const PROGRAM_BYTES: usize = 8 * MAX_INSTRUCTIONS;
 
 /// The entries that a place has for its read list, and for its write list.
-const LIST_ENTRIES: usize = 32;
+pub const LIST_ENTRIES: usize = 32;
 
 /// The number of a setting, by its port (0 to 63) and its field (0 to 15).
 pub const fn setting(port: usize, field: usize) -> usize {

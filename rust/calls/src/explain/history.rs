@@ -1,10 +1,7 @@
 //! The held changes of tables in form.
 
 use text_form::Setting;
-use tolbezun::{Instruction, Status, Tables, MAX_INSTRUCTIONS};
-
-/// The entries that a place has for its read list, and for its write list.
-const LIST_ENTRIES: usize = 32;
+use tolbezun::{Instruction, Status, Tables, LIST_ENTRIES, MAX_INSTRUCTIONS};
 
 /// A held change.
 #[derive(Clone, Copy)]

@@ -4,7 +4,7 @@ use crate::programs::hex;
 use crate::{assert_answers, printed, run, text, write_file};
 use calls::{Options, Stop};
 use comparison::generate::scripts::{Call, Source};
-use comparison::generate::{version, Random};
+use comparison::generate::{self, version, Random};
 use comparison::seeds::{count_reached, with_seeds};
 use outside::program::check;
 use outside::tables::Tables;
@@ -145,18 +145,8 @@ fn any_script(random: &mut Random) -> Vec<u8> {
     let mut script = b"take_in 20 version 1 { # one\n r0 = port 2 power\n if r0 < 0 skip to end\n\
                        port 2 power = r0\nend:\n} # two\nturn\nvalue_as_of 9 port 2 mask 7\ndrain\n"
         .to_vec();
-    for _ in 0..random.below(4) {
-        let place = random.below(script.len());
-        let byte = match random.below(4) {
-            0 => random.bits() as u8,
-            _ => random.pick(b"0129r={}<:# \n\r\tx\xC3"),
-        };
-        match random.below(3) {
-            0 => script[place] = byte,
-            1 => script.insert(place, byte),
-            _ => drop(script.remove(place)),
-        }
-    }
+    let times = random.below(4);
+    generate::damage_text(random, &mut script, times, b"0129r={}<:# \n\r\tx\xC3");
     script
 }
 

@@ -115,6 +115,14 @@ fn forms_that_end_too_soon_or_go_on() {
     assert_wrong("r0 = r1 r2", 9, operation, r#""r2""#);
     assert_wrong("if r0 > 0 skip 1", 7, r#""< 0" or "= 0""#, r#"">""#);
     assert_wrong("if r0 < 1 skip 1", 9, r#""0""#, r#""1""#);
+    assert_wrong("if r0 <= 0 skip 1", 8, r#""0""#, r#""=""#);
+    assert_wrong("if r0 == 0 skip 1", 8, r#""0""#, r#""=""#);
+    assert_wrong("if r0 =< 0 skip 1", 8, r#""0""#, r#""<""#);
+    assert_wrong("if r0 != 0 skip 1", 7, r#""< 0" or "= 0""#, r#""!""#);
+    assert_wrong("r0 == 1", 5, RIGHT_SIDE, r#""=""#);
+    assert_wrong("r0 = --1", 7, "a number or a register r0 to r7", r#""-""#);
+    assert_wrong("r0 = r1 + -r2", 11, REGISTER, r#""-""#);
+    assert_wrong("setting 36 == r0", 13, REGISTER, r#""=""#);
     assert_wrong("if r0 = 0", 10, r#""skip""#, END);
     assert_wrong("stop r0", 6, END, r#""r0""#);
     assert_wrong("r0 = 1 2", 8, END, r#""2""#);

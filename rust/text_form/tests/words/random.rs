@@ -7,13 +7,16 @@ use comparison::seeds::count_reached;
 use outside::package::{entries, lay_out, Entry};
 use outside::program::{check, Malformed};
 use text_form::program::instructions;
-use text_form::{Error, Package};
+use text_form::{Error, InWords, Package};
 
 /// How many programs, and how many packages, go through words.
 const INPUTS: usize = 10_000;
 
 /// How many inputs are damaged texts, and how many random bytes.
 const ANY_BYTES: usize = 20_000;
+
+/// How many lines are damaged.
+const DAMAGED_LINES: usize = 200_000;
 
 /// What the random tests are to reach.
 #[derive(Clone, Copy, Debug, PartialEq, Eq, PartialOrd, Ord)]
@@ -252,19 +255,58 @@ fn shuffled_words(random: &mut Random) -> String {
 fn damaged_words(random: &mut Random) -> Vec<u8> {
     let program = some_program(random);
     let mut text = format!("change 30\n{}withdraw 15\n", listing(whole(&program))).into_bytes();
-    for _ in 0..1 + random.below(3) {
-        let place = random.below(text.len());
-        let byte = match random.below(4) {
-            0 => random.bits() as u8,
-            _ => random.pick(b"019r=+-/^<:# \ntx\xC3"),
-        };
-        match random.below(3) {
-            0 => text[place] = byte,
-            1 => text.insert(place, byte),
-            _ => drop(text.remove(place)),
-        }
-    }
+    let times = 1 + random.below(3);
+    generate::damage_text(random, &mut text, times, b"019r=+-/^<:# \ntx\xC3");
     text
+}
+
+/// A line without its comment, its blanks and the leading zeros of its numbers.
+fn without_blanks(line: &str) -> String {
+    let (line, _comment) = line.split_once('#').unwrap_or((line, ""));
+    let mut left = String::new();
+    for character in line.chars().filter(|character| !character.is_whitespace()) {
+        let digits = left.bytes().rev().take_while(u8::is_ascii_digit).count();
+        if character.is_ascii_digit() && &left[left.len() - digits..] == "0" {
+            left.pop();
+        }
+        left.push(character);
+    }
+    left
+}
+
+/// What a damaged line is read as says what the line says, sign for sign. A setting has more names than
+/// one, and 0 may have a sign: these are passed over.
+#[test]
+fn no_part_of_a_line_is_passed_over() {
+    let reached = count_reached(DAMAGED_LINES, |random, _, reached| {
+        let style = &STYLES[random.below(STYLES.len())];
+        let program = generate::program(random, style, 32);
+        let instruction = instructions(whole(&program)).nth(random.below(32));
+        let words = InWords(instruction.expect("there is one").expect("it is right"));
+        let mut line = words.to_string().into_bytes();
+        generate::damage_text(random, &mut line, 1, b"07r=+-/^<");
+        let Ok(line) = String::from_utf8(line) else {
+            return;
+        };
+        let line = line.replace('\n', " ");
+        let read = read_program(&(line.clone() + "\nstop".repeat(31).as_str())).ok();
+        // A line that is a comment now has no instruction.
+        let read = read.filter(|program| program.len() == 32);
+        let read = read.and_then(|program| instructions(&program).next());
+        reached.count(match read {
+            None => Event::NotRead,
+            Some(read) => {
+                let read = InWords(read.expect("what is read is right")).to_string();
+                if !read.contains("port") && !read.ends_with("= 0") {
+                    assert_eq!(without_blanks(&line), without_blanks(&read), "{line:?}");
+                }
+                Event::Read
+            }
+        });
+    });
+    for event in [Event::Read, Event::NotRead] {
+        reached.assert_at_least(DAMAGED_LINES / 20, event);
+    }
 }
 
 fn any_bytes(random: &mut Random, most: usize) -> Vec<u8> {
