@@ -13,7 +13,7 @@ import glob
 import re
 import sys
 
-IDENTIFIER = re.compile(r"[^\s(){}\[\];,.:λ→|«»\"`]+")
+IDENTIFIER = re.compile(r"[^\s(){}\[\];,.:λ→|«»◌\"`]+")
 IMPORT = re.compile(r"\s*(?:pub )?(?:ghost )?use ([\w.'+-]+)\.\{(.*?)\}")
 # words of the older library that names of this repository still had in them
 LIBRARY = {"getD": "get_or"}

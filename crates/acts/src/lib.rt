@@ -9,6 +9,7 @@ use values::seen_hold;
 
 // What a turn does with its change.
 #[derive(Drop)]
+#[derive(Clone, Copy)]
 pub enum Act {
     Clear,
     Stand,

@@ -12,7 +12,7 @@ use lib.Dec.{eqb}
 use lib.IntN.{ℤ, pos}
 use lib.ListN.{length, get_or, set, take, length-set}
 use lib.Seq.{get_or-set_same, get_or-set_other}
-use Rattle.machine.specs.Settings.{setting_count, Environment, Entry, value_in, named, ◌orElse◌, is_some, lookup, after, carry}
+use Rattle.machine.specs.Settings.{setting_count, Environment, Entry, value_in, named, ◌or_else◌, is_some, lookup, after, carry}
 use Rattle.general.proofs.Cases.{true-is-not-false, both}
 use Rattle.machine.proofs.Settings.{lookup-named, length-carry}
 use Rattle.model.specs.History.{Lists, eq_z}

@@ -5,7 +5,7 @@ use native.Mathlib.Omega.{arith}
 use lib.IntN.{ℤ, pos}
 use lib.ListN.{length, get_or, take}
 use mathlib.Core.List.{List}
-use Rattle.machine.specs.Settings.{setting_count, Environment, value_in, Entry, ◌orElse◌, lookup}
+use Rattle.machine.specs.Settings.{setting_count, Environment, value_in, Entry, ◌or_else◌, lookup}
 use Rattle.machine.proofs.Settings.{carry-after}
 use Rattle.general.specs.Lists.{tabulate}
 use Rattle.model.specs.History.{after_all, as_of, all_settings}

@@ -7,7 +7,7 @@ use native.Mathlib.Omega.{arith}
 use lib.IntN.{pos}
 use lib.ListN.{length, get_or, take}
 use lib.Seq.{take-suc, take_all}
-use Rattle.machine.specs.Settings.{setting_count, Environment, value_in, Entry, ◌orElse◌, lookup, after, carry}
+use Rattle.machine.specs.Settings.{setting_count, Environment, value_in, Entry, ◌or_else◌, lookup, after, carry}
 use Rattle.machine.specs.Instruction.{Code}
 use Rattle.machine.specs.Run.{run}
 use Rattle.machine.proofs.Settings.{carry-after, length-carry}

@@ -9,7 +9,7 @@ use lib.Dec.{eqb}
 use lib.IntN.{ℤ, pos}
 use lib.ListN.{length, set, length-set}
 use lib.Seq.{get_or-set_same, get_or-set_other}
-use Rattle.machine.specs.Settings.{setting_count, Environment, value_in, Entry, entry, named, replace_first, ◌orIf◌, ◌orElse◌, is_some, lookup, Holds, Distinct, after, carry}
+use Rattle.machine.specs.Settings.{setting_count, Environment, value_in, Entry, entry, named, replace_first, ◌or_if◌, ◌or_else◌, is_some, lookup, Holds, Distinct, after, carry}
 use Rattle.general.proofs.Cases.{true-is-not-false}
 
 -- ---- carrying writes

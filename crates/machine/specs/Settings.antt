@@ -27,12 +27,12 @@ abbrev pub entry : ℕ → ℤ → Entry
 entry s v = record { setting = s; value = v }
 
 -- the first of two that is there
-infixr 20 ◌orIf◌ ◌orElse◌
-abbrev pub ◌orIf◌ : Option ℤ → Option ℤ → Option ℤ
+infixr 20 ◌or_if◌ ◌or_else◌
+abbrev pub ◌or_if◌ : Option ℤ → Option ℤ → Option ℤ
 none or_if y = y
 some v or_if y = some v
 
-abbrev pub ◌orElse◌ : Option ℤ → ℤ → ℤ
+abbrev pub ◌or_else◌ : Option ℤ → ℤ → ℤ
 none or_else d = d
 some v or_else d = v
 

@@ -2,6 +2,7 @@
 
 // One instruction: operation, a, b, c and n.
 #[derive(Drop)]
+#[derive(Clone, Copy)]
 pub struct Instruction {
     pub operation: u8,
     pub a: u8,
@@ -13,6 +14,7 @@ pub struct Instruction {
 // What an operation takes n for: nothing (n is 0), any number, a number of bits to shift by, a setting, a number of
 // instructions to pass over.
 #[derive(Drop)]
+#[derive(Clone, Copy)]
 pub enum Operand {
     Unused,
     Number,
@@ -23,6 +25,7 @@ pub enum Operand {
 
 // What an operation takes: a, b and c are below these limits, n is of this kind.
 #[derive(Drop)]
+#[derive(Clone, Copy)]
 pub struct Format {
     pub a: u8,
     pub b: u8,
@@ -32,6 +35,7 @@ pub struct Format {
 
 // What an instruction does, once its registers are read.
 #[derive(Drop)]
+#[derive(Clone, Copy)]
 pub enum Effect {
     // The run stops.
     Halt,

@@ -8,7 +8,7 @@ use native.Mathlib.Omega.{arith}
 use lib.Dec.{leb, ltb}
 use lib.IntN.{ℤ}
 use borrow.Author.Tests.{lt-ltb, le-ltb, eq-eqb, ne_eqb, le-leb, lt-leb}
-use Rattle.machine.specs.Settings.{Environment, value_in, ◌orElse◌, lookup, after}
+use Rattle.machine.specs.Settings.{Environment, value_in, ◌or_else◌, lookup, after}
 use Rattle.machine.specs.Instruction.{Code}
 use Rattle.machine.specs.Run.{run}
 use Rattle.general.proofs.Cases.{by-test, by-test₂, impossible}

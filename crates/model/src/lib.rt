@@ -2,6 +2,7 @@
 
 // Set up, take in, withdraw, take in a package, drain, plain run, start values.
 #[derive(Drop)]
+#[derive(Clone, Copy)]
 pub enum Answer {
     Done,
     // The same timestamp is held with the same program.
@@ -11,6 +12,7 @@ pub enum Answer {
 
 // A turn: idle, or what was done with the change of a timestamp.
 #[derive(Drop)]
+#[derive(Clone, Copy)]
 pub enum Turned {
     Idle,
     Ran(u64),
@@ -23,6 +25,7 @@ pub enum Turned {
 
 // Current value, value as of a timestamp.
 #[derive(Drop)]
+#[derive(Clone, Copy)]
 pub enum Value {
     Is(i32),
     Refused(u8),
@@ -30,6 +33,7 @@ pub enum Value {
 
 // The standing of a timestamp: status and flag.
 #[derive(Drop)]
+#[derive(Clone, Copy)]
 pub enum Standing {
     At(u16, u16),
     Refused(u8),
@@ -37,6 +41,7 @@ pub enum Standing {
 
 // Package out: the length of what is written.
 #[derive(Drop)]
+#[derive(Clone, Copy)]
 pub enum Packed {
     Length(u16),
     Refused(u8),

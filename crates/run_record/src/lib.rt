@@ -5,6 +5,7 @@ ghost use Rattle.run_record.specs.Record.{pick, begun, assigned, advanced, ended
 
 // A run between two instructions.
 #[derive(Drop)]
+#[derive(Clone, Copy)]
 pub struct Run {
     // The version of the rules: 0, or any other for version 1.
     pub version: u16,

@@ -4,6 +4,7 @@ ghost use Rattle.search.specs.Searches.{rank_of, stamped_at, position_of, found_
 
 // A position of the order list.
 #[derive(Drop)]
+#[derive(Clone, Copy)]
 pub enum Found {
     At(usize),
     Nothing,

@@ -10,7 +10,9 @@ pub fn put(piece: &[u8], text: &mut [u8], at: usize) -> usize
     requires { at + length piece.now ≤ length text.old }
     ensures { Put at piece.now text.old text.new result }
 {
-    at + bytes::copy(piece, &mut text[at..])
+    let end = at + piece.len();
+    text[at..end].copy_from_slice(piece);
+    end
 }
 
 // The decimal digits of a number put at `at`.

@@ -6,7 +6,7 @@ use mathlib.Core.Option.{Option, none, some}
 use Prim.Native.Nat.{ℕ}
 use borrow.Author.Tests.{not-false}
 use lib.IntN.{ℤ}
-use Rattle.machine.specs.Settings.{Environment, Entry, ◌orElse◌, is_some, lookup, Holds, after}
+use Rattle.machine.specs.Settings.{Environment, Entry, ◌or_else◌, is_some, lookup, Holds, after}
 use Rattle.general.proofs.Cases.{true-is-not-false, neither}
 use Rattle.model.specs.History.{New, Valid, Invalid, Lists, run_lists, Change, change, lists, History, after_change, after_all}
 use Rattle.model.specs.Figure.{Event, reads_any, mark, mark_update}

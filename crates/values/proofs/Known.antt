@@ -10,7 +10,7 @@ use lib.Dec.{eqb}
 use lib.IntN.{ℤ, pos}
 use lib.ListN.{length, get_or, set, replicate, length-set, length-replicate, get_or-replicate}
 use lib.Seq.{get_or-set_same, get_or-set_other}
-use Rattle.machine.specs.Settings.{setting_count, Environment, Entry, value_in, ◌orElse◌, lookup, after, carry}
+use Rattle.machine.specs.Settings.{setting_count, Environment, Entry, value_in, ◌or_else◌, lookup, after, carry}
 use Rattle.machine.proofs.Settings.{or-if-else, carry-after}
 use Rattle.model.specs.Tables.{list_in}
 use Rattle.writers.specs.Writers.{previous_write}

@@ -2,7 +2,7 @@
 use mathlib.Core.Path.{◌≡◌}
 use mathlib.Core.Option.{Option}
 use lib.IntN.{ℤ}
-use Rattle.machine.specs.Settings.{◌orElse◌}
+use Rattle.machine.specs.Settings.{◌or_else◌}
 use Rattle.writers.specs.declared.Written.{Written}
 use Rattle.writers.specs.declared.Written.TheVariants.{Value, Nothing}
 use Rattle.writers.specs.Writers.{written_of}

@@ -1,6 +1,6 @@
 -- The values as of a position of the order list, and which of them are known.
 use Rattle.std.specs.Prelude.{◌≡◌, List, ℕ, ◌<◌, ℤ, length, get_or}
-use Rattle.machine.specs.Settings.{setting_count, Environment, value_in, ◌orElse◌}
+use Rattle.machine.specs.Settings.{setting_count, Environment, value_in, ◌or_else◌}
 use Rattle.writers.specs.Writers.{previous_write, WriteLists}
 use Rattle.search.specs.Searches.{PlacesWithin}
 

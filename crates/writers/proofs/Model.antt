@@ -9,7 +9,7 @@ use borrow.Author.Tests.{ltb-true}
 use lib.Dec.{ltb}
 use lib.IntN.{ℤ}
 use lib.ListN.{length, get_or, take}
-use Rattle.machine.specs.Settings.{setting_count, Environment, Entry, ◌orIf◌, ◌orElse◌, lookup}
+use Rattle.machine.specs.Settings.{setting_count, Environment, Entry, ◌or_if◌, ◌or_else◌, lookup}
 use Rattle.general.proofs.Cases.{both}
 use Rattle.machine.proofs.Settings.{or-if-else}
 use Rattle.model.specs.History.{Change, lists, after_all, as_of}

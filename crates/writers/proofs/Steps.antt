@@ -11,7 +11,7 @@ use lib.Dec.{eqb}
 use lib.IntN.{ℤ, pos}
 use lib.ListN.{length, get_or, drop, length-drop}
 use lib.Seq.{get_or-drop}
-use Rattle.machine.specs.Settings.{◌orIf◌, entries, lookup}
+use Rattle.machine.specs.Settings.{◌or_if◌, entries, lookup}
 use Rattle.model.specs.Tables.{list_in}
 use Rattle.writers.specs.declared.Written.{Written}
 use Rattle.writers.specs.declared.Written.TheVariants.{Value, Nothing}

@@ -1,7 +1,7 @@
 -- Lent write lists, and what the search for a writer gives of them.
 use Rattle.std.specs.Prelude.{◌≡◌, List, ℕ, zero, suc, ◌*◌, ◌<◌, ◌≤◌, ℤ, length, get_or}
 use Rattle.std.proofs.Math.Option.{Option, none, some}
-use Rattle.machine.specs.Settings.{setting_count, ◌orIf◌, lookup}
+use Rattle.machine.specs.Settings.{setting_count, ◌or_if◌, lookup}
 use Rattle.model.specs.Tables.{list_in}
 use Rattle.writers.specs.declared.Written.{Written}
 use Rattle.writers.specs.declared.Written.TheVariants as written_as

@@ -7,6 +7,7 @@ ghost use Rattle.writers.specs.Writers.{written_of, previous_write, WriteLists};
 
 // The value that some writes give a setting.
 #[derive(Drop)]
+#[derive(Clone, Copy)]
 pub enum Written {
     Value(i32),
     Nothing,

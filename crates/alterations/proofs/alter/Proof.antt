@@ -10,23 +10,23 @@ use Rattle.alterations.proofs.alter.Tie as tie
 abbrev begun : tie.Start → tie.Start
 begun s = s
 
-alter-writes-requires : tie.Need-alter-writes-requires
+alter-writes-requires : tie.Need-alter_writes-requires
 alter-writes-requires c κs =
     let start : tie.Start = search in
-    let p = start.pre in
+    let p = start.requires in
     (both-writes p.0 p.2.listed, p.1, p.2)
 
 returns : tie.Need-returns
 returns c =
     let start : tie.Start = search in
     let a = start.args in
-    let p = start.pre in
+    let p = start.requires in
     altered-by (part-entries a.writes.now a.targets.now a.written.now _ (target_room p.0 p.2.listed) (value_room p.0 p.2.listed))
     (first-entries a.size a.new-targets.now a.new-written.now (omega (arith, p.0.short, p.0.target-slots)) (omega (arith, p.0.short, p.0.value-slots)))
-    c.alter-writes.ensures
+    c.alter_writes.ensures
 
-pub alter-spec : {M : Type 1} → statement M
-alter-spec =
+pub alter_spec : {M : Type 1} → statement M
+alter_spec =
     tie.close
     (tie.spec
     (λ c. search rules)

@@ -3,14 +3,14 @@ use borrow.Author.Rules.{rules}
 use Rattle.answer_numbers.proofs.standing_number.Statement.{statement}
 use Rattle.answer_numbers.proofs.standing_number.Tie as tie
 
-returns : tie.Need-returns
-returns c = let at-standing : tie.After-standing = search in rw at-standing.standing.given.1
+returns : tie.Need-returns-in-At
+returns c = let at-standing : tie.In-At-2 = search in rw at-standing.standing-1.given.1
 
-returns-2 : tie.Need-returns-2
-returns-2 c = let at-standing2 : tie.After-standing2 = search in rw at-standing2.standing2.given.1
+returns-2 : tie.Need-returns-in-Refused
+returns-2 c = let at-standing2 : tie.In-Refused-2 = search in rw at-standing2.standing-in-Refused-1.given.1
 
-pub standing-number-spec : {M : Type 1} → statement M
-standing-number-spec =
+pub standing_number_spec : {M : Type 1} → statement M
+standing_number_spec =
     tie.close
     (tie.spec
     (λ c. search rules)

@@ -10,36 +10,36 @@ use Rattle.machine.proofs.Entries.{carry-stored}
 use Rattle.carrying.proofs.carry_list.Statement.{statement}
 use Rattle.carrying.proofs.carry_list.Tie as tie
 
-abbrev invariant-loop : tie.invariant-loop
+abbrev invariant-loop : tie.invariant-loop-i
 invariant-loop settings values into₀ i₀ into i = (i ≤ length settings) × (into ≡ carry (entries i settings values) into₀)
 
-abbrev decreases-loop : tie.decreases-loop
+abbrev decreases-loop : tie.decreases-loop-i
 decreases-loop settings values into₀ i₀ into i = length settings - i
 
-loop-holds : tie.Need-loop-init invariant-loop decreases-loop
+loop-holds : tie.Need-loop-i-init invariant-loop decreases-loop
 unfolding entries carry
 loop-holds c = (omega arith, refl)
 
-abbrev entry : tie.At-loop invariant-loop decreases-loop → tie.Start invariant-loop decreases-loop
+abbrev entry : tie.At-loop-i invariant-loop decreases-loop → tie.Start invariant-loop decreases-loop
 entry l = search
 
 -- the setting of a turn is within the values
-within : (c : tie.In-loop invariant-loop decreases-loop) → get_or (entry c.before).args.settings.now c.before.loop.i 0 < setting_count
-within c = (entry c.before).pre.1.below c.before.loop.i (omega arith)
+within : (c : tie.In-loop-i invariant-loop decreases-loop) → get_or (entry c.before).args.settings.now c.before.loop-i.i 0 < setting_count
+within c = (entry c.before).requires.1.below c.before.loop-i.i (omega arith)
 
-loop-again : tie.Need-loop-preserved invariant-loop decreases-loop
+loop-again : tie.Need-loop-i-preserved invariant-loop decreases-loop
 loop-again c =
-    let at-loop : tie.At-loop invariant-loop decreases-loop = search in
-    let l = at-loop.loop in
-    (omega arith, rw (to_z-of_z (sfits_of c.into.given), l.inv.1) (carry-stored l.i _ _ _ (omega arith) (omega arith)))
+    let at-loop : tie.At-loop-i invariant-loop decreases-loop = search in
+    let l = at-loop.loop-i in
+    (omega arith, rw (to_z-of_z (sfits_of c.into-1.given), l.invariant.1) (carry-stored l.i _ _ _ (omega arith) (omega arith)))
 
 returns : tie.Need-returns invariant-loop decreases-loop
 returns c =
-    let e : length (entry c.before).args.settings.now ≡ c.before.loop.i = omega arith in
-    rw e c.before.loop.invariant.1
+    let e : length (entry c.before).args.settings.now ≡ c.before.loop-i.i = omega arith in
+    rw e c.before.loop-i.invariant.1
 
-pub carry-list-spec : {M : Type 1} → statement M
-carry-list-spec =
+pub carry_list_spec : {M : Type 1} → statement M
+carry_list_spec =
     tie.close
     (tie.spec
     invariant-loop

@@ -17,34 +17,34 @@ target_room s = omega (arith, s.requires.0, s.requires.1.short s.args.place, s.r
 value_room : (s : tie.Start) → let a = s.args in 32 * a.place + get_or a.writes.now a.place 0 ≤ length a.written.now
 value_room s = omega (arith, s.requires.0, s.requires.1.short s.args.place, s.requires.1.value-slots)
 
-abbrev entry : tie.After-carry-list → tie.Start
+abbrev entry : tie.After-carry_list → tie.Start
 entry c = search
 
-carry-list-requires : tie.Need-carry-list-requires
+carry-list-requires : tie.Need-carry_list-requires
 carry-list-requires c κs =
     let s : tie.Start = search in
     let a = s.args in
-    (same-part a.writes.now a.targets.now a.written.now a.place (target_room s) (value_room s), part-settings a.place _ a.targets.now s.pre.2)
+    (same-part a.writes.now a.targets.now a.written.now a.place (target_room s) (value_room s), part-settings a.place _ a.targets.now s.requires.2)
 
-carry-list-requires-2 : tie.Need-carry-list-requires-2
+carry-list-requires-2 : tie.Need-carry_list-requires-2
 carry-list-requires-2 c κs =
     let s = entry (search) in
     let a = s.args in
-    (same-part a.writes.now a.targets.now a.written.now a.place (target_room s) (value_room s), part-settings a.place _ a.targets.now s.pre.2)
+    (same-part a.writes.now a.targets.now a.written.now a.place (target_room s) (value_room s), part-settings a.place _ a.targets.now s.requires.2)
 
 returns : tie.Need-returns
 returns c =
-    let m : tie.After-carry-list = search in
+    let m : tie.After-carry_list = search in
     let s = entry m in
     let a = s.args in
     let w = part-entries a.writes.now a.targets.now a.written.now a.place (target_room s) (value_room s) in
     record {
-      before-is = m.carry-list.ensures ∙ ap (λ (l : List Entry). carry l a.before.now) w;
-      after_is = c.carry-list2.ensures ∙ ap (λ (l : List Entry). carry l a.after.now) w;
+      before-is = m.carry_list.ensures ∙ ap (λ (l : List Entry). carry l a.before.now) w;
+      after_is = c.carry_list-2.ensures ∙ ap (λ (l : List Entry). carry l a.after.now) w;
     }
 
-pub carry-place-spec : {M : Type 1} → statement M
-carry-place-spec =
+pub carry_place_spec : {M : Type 1} → statement M
+carry_place_spec =
     tie.close
     (tie.spec
     (λ c. search rules)

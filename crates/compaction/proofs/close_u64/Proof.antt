@@ -9,75 +9,75 @@ use Rattle.compaction.proofs.Moves.{ClosedUp, close-none, close-room, close-end,
 use Rattle.compaction.proofs.close_u64.Statement.{statement}
 use Rattle.compaction.proofs.close_u64.Tie as tie
 
-abbrev invariant-loop : tie.invariant-loop
+abbrev invariant-loop : tie.invariant-loop-j
 invariant-loop width count places table₀ j₀ table j = (j ≤ count) × ClosedUp width places j table₀ table
 
-abbrev decreases-loop : tie.decreases-loop
+abbrev decreases-loop : tie.decreases-loop-j
 decreases-loop width count places table₀ j₀ table j = count - j
 
-abbrev entry : tie.At-loop invariant-loop decreases-loop → tie.Start invariant-loop decreases-loop
+abbrev entry : tie.At-loop-j invariant-loop decreases-loop → tie.Start invariant-loop decreases-loop
 entry l = search
 
 -- what the move of a turn relies on
-room : (c : tie.In-loop invariant-loop decreases-loop) → let s = entry c.before in let i = get_or s.args.places.now c.before.loop.j 0 in (s.args.width * c.before.loop.j ≤ s.args.width * i) × (s.args.width * i + s.args.width ≤ length s.args.table.now)
-room c = close-room (entry c.before).pre c.before.loop.j c.loop-test.true
+room : (c : tie.In-loop-j invariant-loop decreases-loop) → let s = entry c.before in let i = get_or s.args.places.now c.before.loop-j.j 0 in (s.args.width * c.before.loop-j.j ≤ s.args.width * i) × (s.args.width * i + s.args.width ≤ length s.args.table-1.now)
+room c = close-room (entry c.before).requires c.before.loop-j.j c.loop-j-test.true
 
-loop-holds : tie.Need-loop-init invariant-loop decreases-loop
+loop-holds : tie.Need-loop-j-init invariant-loop decreases-loop
 loop-holds c =
     let start : tie.Start invariant-loop decreases-loop = search in
-    (omega arith, close-none start.pre)
+    (omega arith, close-none start.requires)
 
-move-u64-requires : tie.Need-move-u64-requires invariant-loop decreases-loop
+move-u64-requires : tie.Need-move_u64-requires invariant-loop decreases-loop
 move-u64-requires c κs =
-    let at-loop : tie.At-loop invariant-loop decreases-loop = search in
+    let at-loop : tie.At-loop-j invariant-loop decreases-loop = search in
     let r = room (search) in
-    (r.0, omega (arith, r, at-loop.loop.inv.1.same))
+    (r.0, omega (arith, r, at-loop.loop-j.invariant.1.same))
 
-loop-again : tie.Need-loop-preserved invariant-loop decreases-loop
+loop-again : tie.Need-loop-j-preserved invariant-loop decreases-loop
 loop-again c =
     let start : tie.Start invariant-loop decreases-loop = search in
-    let turn : tie.In-loop invariant-loop decreases-loop = search in
-    let at-loop : tie.At-loop invariant-loop decreases-loop = search in
-    let at-move-u64 : tie.After-move-u64 invariant-loop decreases-loop = search in
-    (omega arith, close-next start.pre turn.loop-test.taken at-loop.loop.inv.1 (omega (arith, at-move-u64.move-u64.kept)) at-move-u64.move-u64.ensures)
+    let turn : tie.In-loop-j invariant-loop decreases-loop = search in
+    let at-loop : tie.At-loop-j invariant-loop decreases-loop = search in
+    let at-move-u64 : tie.After-move_u64 invariant-loop decreases-loop = search in
+    (omega arith, close-next start.requires turn.loop-j-test.true at-loop.loop-j.invariant.1 (omega (arith, at-move-u64.move_u64.kept)) at-move-u64.move_u64.ensures)
 
-same_length : tie.Need-same-length invariant-loop decreases-loop
+same_length : tie.Need-shape_of-table invariant-loop decreases-loop
 same_length c =
-    let at-clear-u64 : tie.After-clear-u64 invariant-loop decreases-loop = search in
-    let at-loop : tie.At-loop invariant-loop decreases-loop = search in
-    let l = at-loop.loop in
+    let at-clear-u64 : tie.After-clear_u64 invariant-loop decreases-loop = search in
+    let at-loop : tie.At-loop-j invariant-loop decreases-loop = search in
+    let l = at-loop.loop-j in
     let s : tie.Start invariant-loop decreases-loop = search in
-    same_len_mid (s.args.width * s.args.count) (length l.table - s.args.width * s.args.count) l.table at-clear-u64.clear-u64.last.0 at-clear-u64.clear-u64.kept.0 ∙ l.inv.1.same
+    same_len_mid (s.args.width * s.args.count) (length l.table-1 - s.args.width * s.args.count) l.table-1 at-clear-u64.clear_u64.last.0 at-clear-u64.clear_u64.kept.0 ∙ l.invariant.1.same
 
 returns : tie.Need-returns invariant-loop decreases-loop
 returns c =
-    let at-clear-u64 : tie.After-clear-u64 invariant-loop decreases-loop = search in
-    let at-loop : tie.At-loop invariant-loop decreases-loop = search in
-    let l = at-loop.loop in
+    let at-clear-u64 : tie.After-clear_u64 invariant-loop decreases-loop = search in
+    let at-loop : tie.At-loop-j invariant-loop decreases-loop = search in
+    let l = at-loop.loop-j in
     let s : tie.Start invariant-loop decreases-loop = search in
     let e : l.j ≡ s.args.count = omega arith in
-    close-last s.pre 0 (rw e at l.inv.1) at-clear-u64.clear-u64.ensures
+    close-last s.requires 0 (rw e at l.invariant.1) at-clear-u64.clear_u64.ensures
 
-pub close-u64-spec : {M : Type 1} → statement M
-close-u64-spec =
+pub close_u64_spec : {M : Type 1} → statement M
+close_u64_spec =
     tie.close
     (tie.spec
     invariant-loop
     decreases-loop
     loop-holds
-    (λ c. let start : tie.Start invariant-loop decreases-loop = search in omega (arith, start.pre.small))
-    (λ c. let start : tie.Start invariant-loop decreases-loop = search in omega (arith, start.pre.small))
-    (λ c. let turn : tie.In-loop invariant-loop decreases-loop = search in omega (arith, (entry turn.before).pre.below turn.before.loop.j turn.loop-test.taken))
+    (λ c. let start : tie.Start invariant-loop decreases-loop = search in omega (arith, start.requires.small))
+    (λ c. let start : tie.Start invariant-loop decreases-loop = search in omega (arith, start.requires.small))
+    (λ c. let turn : tie.In-loop-j invariant-loop decreases-loop = search in omega (arith, (entry turn.before).requires.below turn.before.loop-j.j turn.loop-j-test.true))
     (λ c. omega (arith, room (search)))
     (λ c. omega (arith, room (search)))
     move-u64-requires
     (λ c. search rules)
     (λ c. search rules)
     loop-again
-    (λ c. let l : tie.At-loop invariant-loop decreases-loop = search in omega (arith, close-end (entry l).pre, l.loop.inv.1.same))
-    (λ c. let l : tie.At-loop invariant-loop decreases-loop = search in omega (arith, close-end (entry l).pre, l.loop.inv.1.same))
-    (λ c. let l : tie.At-loop invariant-loop decreases-loop = search in omega (arith, close-end (entry l).pre, l.loop.inv.1.same))
-    (λ c. let l : tie.At-loop invariant-loop decreases-loop = search in omega (arith, close-end (entry l).pre, l.loop.inv.1.same))
+    (λ c. let l : tie.At-loop-j invariant-loop decreases-loop = search in omega (arith, close-end (entry l).requires, l.loop-j.invariant.1.same))
+    (λ c. let l : tie.At-loop-j invariant-loop decreases-loop = search in omega (arith, close-end (entry l).requires, l.loop-j.invariant.1.same))
+    (λ c. let l : tie.At-loop-j invariant-loop decreases-loop = search in omega (arith, close-end (entry l).requires, l.loop-j.invariant.1.same))
+    (λ c. let l : tie.At-loop-j invariant-loop decreases-loop = search in omega (arith, close-end (entry l).requires, l.loop-j.invariant.1.same))
     (λ c. search rules)
     (λ c κs. tt)
     same_length

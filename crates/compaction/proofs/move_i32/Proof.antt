@@ -9,34 +9,34 @@ use Rattle.compaction.proofs.Moves.{Copied, copy-none, copy-last, move-next}
 use Rattle.compaction.proofs.move_i32.Statement.{statement}
 use Rattle.compaction.proofs.move_i32.Tie as tie
 
-abbrev invariant-loop : tie.invariant-loop
+abbrev invariant-loop : tie.invariant-loop-k
 invariant-loop from to size table₀ k₀ table k = (k ≤ size) × Copied table₀ to (drop from table₀) k table
 
-abbrev decreases-loop : tie.decreases-loop
+abbrev decreases-loop : tie.decreases-loop-k
 decreases-loop from to size table₀ k₀ table k = size - k
 
-abbrev entry : tie.At-loop invariant-loop decreases-loop → tie.Start invariant-loop decreases-loop
+abbrev entry : tie.At-loop-k invariant-loop decreases-loop → tie.Start invariant-loop decreases-loop
 entry l = search
 
-loop-holds : tie.Need-loop-init invariant-loop decreases-loop
+loop-holds : tie.Need-loop-k-init invariant-loop decreases-loop
 loop-holds c = (omega arith, copy-none)
 
-loop-again : tie.Need-loop-preserved invariant-loop decreases-loop
+loop-again : tie.Need-loop-k-preserved invariant-loop decreases-loop
 loop-again c =
     let start : tie.Start invariant-loop decreases-loop = search in
-    let at-loop : tie.At-loop invariant-loop decreases-loop = search in
-    let turn : tie.In-loop invariant-loop decreases-loop = search in
-    (omega arith, move-next (pos 0) _ _ _ start.pre.0 start.pre.1 at-loop.loop.inv.1 turn.loop-test.taken refl (search rules))
+    let at-loop : tie.At-loop-k invariant-loop decreases-loop = search in
+    let turn : tie.In-loop-k invariant-loop decreases-loop = search in
+    (omega arith, move-next (pos 0) _ _ _ start.requires.0 start.requires.1 at-loop.loop-k.invariant.1 turn.loop-k-test.true refl (search rules))
 
 returns : tie.Need-returns invariant-loop decreases-loop
 returns c =
-    let at-loop : tie.At-loop invariant-loop decreases-loop = search in
-    let l = at-loop.loop in
+    let at-loop : tie.At-loop-k invariant-loop decreases-loop = search in
+    let l = at-loop.loop-k in
     let e : l.k ≡ (entry c.before).args.size = omega arith in
-    copy-last e l.inv.1
+    copy-last e l.invariant.1
 
-pub move-i32-spec : {M : Type 1} → statement M
-move-i32-spec =
+pub move_i32_spec : {M : Type 1} → statement M
+move_i32_spec =
     tie.close
     (tie.spec
     invariant-loop
@@ -51,5 +51,5 @@ move-i32-spec =
     (λ c. search rules)
     (λ c. search rules)
     loop-again
-    (λ c. let at-loop : tie.At-loop invariant-loop decreases-loop = search in at-loop.loop.inv.1.same)
+    (λ c. let at-loop : tie.At-loop-k invariant-loop decreases-loop = search in at-loop.loop-k.invariant.1.same)
     returns)

@@ -12,61 +12,61 @@ use Rattle.cutoff.proofs.raise_cutoff.Tie as tie
 abbrev lent : tie.Start → Tables
 lent s =
     let a = s.args in
-    tables a.held.now a.timestamps.now a.order.now a.status.now a.withdrawn.now a.lengths.now a.programs.now a.reads.now a.writes.now a.sources.now a.seen.now a.targets.now a.written.now a.view.now a.versions.now a.cutoff.now a.kept.now
+    tables a.held-1.now a.timestamps-1.now a.order-1.now a.status-1.now a.withdrawn-1.now a.lengths-1.now a.programs-1.now a.reads-1.now a.writes-1.now a.sources-1.now a.seen-1.now a.targets-1.now a.written-1.now a.view.now a.versions-1.now a.cutoff-1.now a.kept-1.now
 
 -- ---- the places of the code, from each the one before
 
-abbrev entry : tie.After-cutoff-refusal → tie.Start
+abbrev entry : tie.After-cutoff_refusal-refused → tie.Start
 entry c = search
 
-abbrev passed : tie.After-drop-changes → tie.Else1
+abbrev passed : tie.After-drop_changes-found → tie.Else-refused-ne0
 passed c = search
 
-abbrev dropped : tie.After-close-columns → tie.After-drop-changes
+abbrev dropped : tie.After-close_columns → tie.After-drop_changes-found
 dropped c = search
 
-abbrev columns : tie.After-close-blocks → tie.After-close-columns
+abbrev columns : tie.After-close_blocks → tie.After-close_columns
 columns c = search
 
-abbrev blocks : tie.After-written → tie.After-close-blocks
+abbrev blocks : tie.After-written-1 → tie.After-close_blocks
 blocks c = search
 
 -- ---- needs
 
-fits : (c : tie.Else1) → let s = entry c.before in Formed s.args.n (lent s)
-fits c = c.before.cutoff-refusal.ensures.formed c.if1.false
+fits : (c : tie.Else-refused-ne0) → let s = entry c.before in Formed s.args.n (lent s)
+fits c = c.before.cutoff_refusal-refused.ensures.formed c.if-refused-ne0.false
 
-returns : tie.Need-returns
+returns : tie.Need-returns-then-refused-ne0
 returns c =
     let s = entry c.before in
-    cutoff-refused s.args.n (lent s) s.args.timestamp c.before.cutoff-refusal.ensures c.if1.true
+    cutoff-refused s.args.n (lent s) s.args.timestamp c.before.cutoff_refusal-refused.ensures c.if-refused-ne0.true
 
-drop-changes-requires : tie.Need-drop-changes-requires
+drop-changes-requires : tie.Need-drop_changes-found-requires
 drop-changes-requires c κs =
-    let u : tie.Else1 = search in
+    let u : tie.Else-refused-ne0 = search in
     (droppable (fits u) (entry u.before).args.timestamp, search rules)
 
-close-columns-requires : tie.Need-close-columns-requires
+close-columns-requires : tie.Need-close_columns-requires
 close-columns-requires c κs =
-    let d : tie.After-drop-changes = search in
-    columns-closable (fits (passed d)) _ d.drop-changes.ensures.remain
+    let d : tie.After-drop_changes-found = search in
+    columns-closable (fits (passed d)) _ d.drop_changes-found.ensures.remain
 
-close-blocks-requires : tie.Need-close-blocks-requires
+close-blocks-requires : tie.Need-close_blocks-requires
 close-blocks-requires c κs =
     let d = dropped (search) in
-    blocks-closable (fits (passed d)) _ d.drop-changes.ensures.remain
+    blocks-closable (fits (passed d)) _ d.drop_changes-found.ensures.remain
 
-returns-2 : tie.Need-returns-2
+returns-2 : tie.Need-returns
 returns-2 c =
     let b = blocks c in
     let k = columns b in
     let d = dropped k in
     let u = passed d in
     let s = entry u.before in
-    cutoff-done s.args.n (lent s) s.args.timestamp u.before.cutoff-refusal.ensures u.if1.left (tables-cut (fits u) _ d.drop-changes.ensures k.close-columns.ensures b.close-blocks.ensures)
+    cutoff-done s.args.n (lent s) s.args.timestamp u.before.cutoff_refusal-refused.ensures u.if-refused-ne0.false (tables-cut (fits u) _ d.drop_changes-found.ensures k.close_columns.ensures b.close_blocks.ensures)
 
-pub raise-cutoff-spec : {M : Type 1} → statement M
-raise-cutoff-spec =
+pub raise_cutoff_spec : {M : Type 1} → statement M
+raise_cutoff_spec =
     tie.close
     (tie.spec
     (λ c κs. tt)
@@ -90,20 +90,20 @@ raise-cutoff-spec =
     drop-changes-requires
     close-columns-requires
     close-blocks-requires
-    (λ c. omega (arith, (dropped (columns (blocks c))).drop-changes.auto))
-    (λ c. omega (arith, (columns (blocks c)).close-columns.auto))
-    (λ c. omega (arith, (dropped (columns (blocks c))).drop-changes.auto))
-    (λ c. omega (arith, (columns (blocks c)).close-columns.auto))
-    (λ c. omega (arith, (columns (blocks c)).close-columns.auto))
-    (λ c. omega (arith, (columns (blocks c)).close-columns.auto))
-    (λ c. omega (arith, (blocks c).close-blocks.auto))
-    (λ c. omega (arith, (columns (blocks c)).close-columns.auto))
-    (λ c. omega (arith, (columns (blocks c)).close-columns.auto))
-    (λ c. omega (arith, (blocks c).close-blocks.auto))
-    (λ c. omega (arith, (blocks c).close-blocks.auto))
-    (λ c. omega (arith, (blocks c).close-blocks.auto))
-    (λ c. omega (arith, (blocks c).close-blocks.auto))
-    (λ c. omega (arith, (columns (blocks c)).close-columns.auto))
-    (λ c. omega (arith, (dropped (columns (blocks c))).drop-changes.auto))
-    (λ c. omega (arith, (dropped (columns (blocks c))).drop-changes.auto))
+    (λ c. omega (arith, (dropped (columns (blocks c))).drop_changes-found.auto))
+    (λ c. omega (arith, (columns (blocks c)).close_columns.auto))
+    (λ c. omega (arith, (dropped (columns (blocks c))).drop_changes-found.auto))
+    (λ c. omega (arith, (columns (blocks c)).close_columns.auto))
+    (λ c. omega (arith, (columns (blocks c)).close_columns.auto))
+    (λ c. omega (arith, (columns (blocks c)).close_columns.auto))
+    (λ c. omega (arith, (blocks c).close_blocks.auto))
+    (λ c. omega (arith, (columns (blocks c)).close_columns.auto))
+    (λ c. omega (arith, (columns (blocks c)).close_columns.auto))
+    (λ c. omega (arith, (blocks c).close_blocks.auto))
+    (λ c. omega (arith, (blocks c).close_blocks.auto))
+    (λ c. omega (arith, (blocks c).close_blocks.auto))
+    (λ c. omega (arith, (blocks c).close_blocks.auto))
+    (λ c. omega (arith, (columns (blocks c)).close_columns.auto))
+    (λ c. omega (arith, (dropped (columns (blocks c))).drop_changes-found.auto))
+    (λ c. omega (arith, (dropped (columns (blocks c))).drop_changes-found.auto))
     returns-2)

@@ -11,18 +11,18 @@ lent s =
     let a = s.args in
     tables a.held.now a.timestamps.now a.order.now a.status.now a.withdrawn.now a.lengths.now a.programs.now a.reads.now a.writes.now a.sources.now a.seen.now a.targets.now a.written.now a.view.now a.versions.now a.cutoff.now a.kept.now
 
-abbrev entry : tie.After-fault → tie.Start
+abbrev entry : tie.After-fault-wrong → tie.Start
 entry c = search
 
-refusal-of-requires : tie.Need-refusal-of-requires
+refusal-of-requires : tie.Need-refusal_of-requires
 refusal-of-requires c κs =
-    let f : tie.After-fault = search in
-    λ z. testable (faultless (entry f).args.n (lent (entry f)) f.fault.ensures z) (entry f).args.timestamp
+    let f : tie.After-fault-wrong = search in
+    λ z. testable (faultless (entry f).args.n (lent (entry f)) f.fault-wrong.ensures z) (entry f).args.timestamp
 
 returns : tie.Need-returns
 returns c =
-    let f : tie.After-fault = search in
-    judged (entry f).args.n (lent (entry f)) (entry f).args.timestamp f.fault.ensures c.refusal-of.ensures
+    let f : tie.After-fault-wrong = search in
+    judged (entry f).args.n (lent (entry f)) (entry f).args.timestamp f.fault-wrong.ensures c.refusal_of.ensures
 
-pub cutoff-refusal-spec : {M : Type 1} → statement M
-cutoff-refusal-spec = tie.close (tie.spec (λ c κs. tt) refusal-of-requires returns)
+pub cutoff_refusal_spec : {M : Type 1} → statement M
+cutoff_refusal_spec = tie.close (tie.spec (λ c κs. tt) refusal-of-requires returns)

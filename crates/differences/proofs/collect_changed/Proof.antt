@@ -9,32 +9,32 @@ use Rattle.differences.proofs.Changed.{Collecting, collecting-none, collecting-o
 use Rattle.differences.proofs.collect_changed.Statement.{statement}
 use Rattle.differences.proofs.collect_changed.Tie as tie
 
-abbrev invariant-loop : tie.invariant-loop
+abbrev invariant-loop : tie.invariant-loop-i
 invariant-loop settings before after changed₀ count total₀ i₀ changed total i =
     Collecting settings before after count changed₀ total changed i
 
-abbrev decreases-loop : tie.decreases-loop
+abbrev decreases-loop : tie.decreases-loop-i
 decreases-loop settings before after changed₀ count total₀ i₀ changed total i = length settings - i
 
-abbrev entry : tie.At-loop invariant-loop decreases-loop → tie.Start invariant-loop decreases-loop
+abbrev entry : tie.At-loop-i invariant-loop decreases-loop → tie.Start invariant-loop decreases-loop
 entry l = search
 
 -- the setting of a turn has its values
-within : (c : tie.In-loop invariant-loop decreases-loop) → get_or (entry c.before).args.settings.now c.before.loop.i 0 < setting_count
-within c = (entry c.before).pre.0.below c.before.loop.i (omega arith)
+within : (c : tie.In-loop-i invariant-loop decreases-loop) → get_or (entry c.before).args.settings.now c.before.loop-i.i 0 < setting_count
+within c = (entry c.before).requires.0.below c.before.loop-i.i (omega arith)
 
-loop-again : tie.Need-loop-preserved invariant-loop decreases-loop
+loop-again : tie.Need-loop-i-preserved invariant-loop decreases-loop
 loop-again c =
-    let old : tie.After-if12 invariant-loop decreases-loop = search in
+    let old : tie.After-t18-1 invariant-loop decreases-loop = search in
     let v = c.before in
-    let l : tie.At-loop invariant-loop decreases-loop = search in
+    let l : tie.At-loop-i invariant-loop decreases-loop = search in
     ⊎_elim
-    (λ w. rw w.1 (collecting-one l.loop.inv (omega arith) (omega arith) w.0.taken))
-    (λ w. rw w.1 (collecting-same l.loop.inv (omega arith) (omega arith) (sfits_of old.if12.given) (sfits_of v.if13.given) w.0.left))
-    c.if1.branch
+    (λ w. rw w.1 (collecting-one l.loop-i.invariant (omega arith) (omega arith) w.0.true))
+    (λ w. rw w.1 (collecting-same l.loop-i.invariant (omega arith) (omega arith) (sfits_of old.t18-1.given) (sfits_of v.t22-1.given) w.0.false))
+    c.if-before-x.branch
 
-pub collect-changed-spec : {M : Type 1} → statement M
-collect-changed-spec =
+pub collect_changed_spec : {M : Type 1} → statement M
+collect_changed_spec =
     tie.close
     (tie.spec
     invariant-loop
@@ -53,4 +53,4 @@ collect-changed-spec =
     (λ c. omega arith)
     (λ c. omega arith)
     loop-again
-    (λ c. collecting-all c.before.loop.invariant (omega arith)))
+    (λ c. collecting-all c.before.loop-i.invariant (omega arith)))

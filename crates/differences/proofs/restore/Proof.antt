@@ -11,34 +11,34 @@ use Rattle.differences.proofs.Changed.{restored-ends, restored-next}
 use Rattle.differences.proofs.restore.Statement.{statement}
 use Rattle.differences.proofs.restore.Tie as tie
 
-abbrev invariant-loop : tie.invariant-loop
+abbrev invariant-loop : tie.invariant-loop-j
 invariant-loop settings after before₀ j₀ before j =
     (j ≤ length settings) × (restored (drop j settings) after before ≡ restored settings after before₀)
 
-abbrev decreases-loop : tie.decreases-loop
+abbrev decreases-loop : tie.decreases-loop-j
 decreases-loop settings after before₀ j₀ before j = length settings - j
 
-abbrev entry : tie.At-loop invariant-loop decreases-loop → tie.Start invariant-loop decreases-loop
+abbrev entry : tie.At-loop-j invariant-loop decreases-loop → tie.Start invariant-loop decreases-loop
 entry l = search
 
 -- the setting of a turn is within the values
-within : (c : tie.In-loop invariant-loop decreases-loop) → get_or (entry c.before).args.settings.now c.before.loop.j 0 < setting_count
-within c = (entry c.before).pre.below c.before.loop.j (omega arith)
+within : (c : tie.In-loop-j invariant-loop decreases-loop) → get_or (entry c.before).args.settings.now c.before.loop-j.j 0 < setting_count
+within c = (entry c.before).requires.below c.before.loop-j.j (omega arith)
 
-loop-again : tie.Need-loop-preserved invariant-loop decreases-loop
+loop-again : tie.Need-loop-j-preserved invariant-loop decreases-loop
 loop-again c =
-    let l : tie.At-loop invariant-loop decreases-loop = search in
+    let l : tie.At-loop-j invariant-loop decreases-loop = search in
     let a = (entry l).args in
-    (omega arith, restored-next a.settings.now a.after.now l.loop.before l.loop.j (omega arith) (to_z-of_z (sfits_of c.before2.given)) ∙ l.loop.inv.1)
+    (omega arith, restored-next a.settings.now a.after.now l.loop-j.before l.loop-j.j (omega arith) (to_z-of_z (sfits_of c.before-1.given)) ∙ l.loop-j.invariant.1)
 
 returns : tie.Need-returns invariant-loop decreases-loop
 returns c =
-    let l : tie.At-loop invariant-loop decreases-loop = search in
+    let l : tie.At-loop-j invariant-loop decreases-loop = search in
     let a = (entry l).args in
-    sym (restored-ends a.settings.now a.after.now l.loop.before l.loop.j (omega arith)) ∙ l.loop.inv.1
+    sym (restored-ends a.settings.now a.after.now l.loop-j.before l.loop-j.j (omega arith)) ∙ l.loop-j.invariant.1
 
-pub restore-spec : {M : Type 1} → statement M
-restore-spec =
+pub restore_spec : {M : Type 1} → statement M
+restore_spec =
     tie.close
     (tie.spec
     invariant-loop

@@ -16,43 +16,43 @@ before-waiting c = search
 waiting-requires : tie.Need-waiting-requires
 waiting-requires c κs =
     let start : tie.Start = search in
-    placed-status start.pre.0.so
+    placed-status start.requires.0.so
 
-turn-from-requires : tie.Need-turn-from-requires
+turn-from-requires : tie.Need-turn_from-requires
 turn-from-requires c κs =
-    let found : tie.After-first = search in
+    let found : tie.In-At-2 = search in
     let at-waiting : tie.After-waiting = search in
     let start = before-waiting at-waiting in
-    (record { others = start.pre.0.others; so = (start.pre.0.so, found_at _ at-waiting.waiting.ensures found.first.given.1) }, start.pre.1)
+    (record { others = start.requires.0.others; so = (start.requires.0.so, found_at _ at-waiting.waiting.ensures found.first-1.given.1) }, start.requires.1)
 
-returns : tie.Need-returns
+returns : tie.Need-returns-in-At
 returns c T g =
-    let at-turn-from : tie.After-turn-from = search in
-    at-turn-from.turn-from.ensures T g
+    let at-turn-from : tie.After-turn_from = search in
+    at-turn-from.turn_from.ensures T g
 
-returns-2 : tie.Need-returns-2
+returns-2 : tie.Need-returns-in-Nothing
 returns-2 c T g =
     let at-waiting : tie.After-waiting = search in
     let start = before-waiting at-waiting in
-    pass-none g start.pre.1 (found_nothing _ at-waiting.waiting.ensures c.enum_told.given.1)
+    pass-none g start.requires.1 (found_nothing _ at-waiting.waiting.ensures c.enum_told-1.given.1)
 
-pub turn-all-spec : {M : Type 1} → statement M
-turn-all-spec =
+pub turn_all_spec : {M : Type 1} → statement M
+turn_all_spec =
     tie.close
     (tie.spec
     waiting-requires
     (λ c. search rules)
     turn-from-requires
     (λ c. search rules)
-    (λ c. omega (arith, (the tie.After-turn-from (search)).turn-from.kept))
-    (λ c. omega (arith, (the tie.After-turn-from (search)).turn-from.kept))
-    (λ c. omega (arith, (the tie.After-turn-from (search)).turn-from.kept))
-    (λ c. omega (arith, (the tie.After-turn-from (search)).turn-from.kept))
-    (λ c. omega (arith, (the tie.After-turn-from (search)).turn-from.kept))
-    (λ c. omega (arith, (the tie.After-turn-from (search)).turn-from.kept))
-    (λ c. omega (arith, (the tie.After-turn-from (search)).turn-from.kept))
-    (λ c. omega (arith, (the tie.After-turn-from (search)).turn-from.kept))
-    (λ c. omega (arith, (the tie.After-turn-from (search)).turn-from.kept))
+    (λ c. omega (arith, (the tie.After-turn_from (search)).turn_from.kept))
+    (λ c. omega (arith, (the tie.After-turn_from (search)).turn_from.kept))
+    (λ c. omega (arith, (the tie.After-turn_from (search)).turn_from.kept))
+    (λ c. omega (arith, (the tie.After-turn_from (search)).turn_from.kept))
+    (λ c. omega (arith, (the tie.After-turn_from (search)).turn_from.kept))
+    (λ c. omega (arith, (the tie.After-turn_from (search)).turn_from.kept))
+    (λ c. omega (arith, (the tie.After-turn_from (search)).turn_from.kept))
+    (λ c. omega (arith, (the tie.After-turn_from (search)).turn_from.kept))
+    (λ c. omega (arith, (the tie.After-turn_from (search)).turn_from.kept))
     returns
     (λ c. refl)
     returns-2)

@@ -10,53 +10,53 @@ use Rattle.dropping.proofs.Carried.{carried-length, carried_none, carried-next}
 use Rattle.dropping.proofs.carry_first.Statement.{statement}
 use Rattle.dropping.proofs.carry_first.Tie as tie
 
-abbrev invariant-loop : tie.invariant-loop
+abbrev invariant-loop : tie.invariant-loop-k
 invariant-loop count order writes targets written values₀ k₀ values k = (k ≤ count) × (values ≡ carried_first (list_in writes targets written) order values₀ k)
 
-abbrev decreases-loop : tie.decreases-loop
+abbrev decreases-loop : tie.decreases-loop-k
 decreases-loop count order writes targets written values₀ k₀ values k = count - k
 
-abbrev entry : tie.At-loop invariant-loop decreases-loop → tie.Start invariant-loop decreases-loop
+abbrev entry : tie.At-loop-k invariant-loop decreases-loop → tie.Start invariant-loop decreases-loop
 entry l = search
 
-same : (l : tie.At-loop invariant-loop decreases-loop) → length l.loop.values ≡ length (entry l).args.values.now
-same l = ap length l.loop.invariant.1 ∙ carried-length _ _ _ _
+same : (l : tie.At-loop-k invariant-loop decreases-loop) → length l.loop-k.values-1 ≡ length (entry l).args.values-1.now
+same l = ap length l.loop-k.invariant.1 ∙ carried-length _ _ _ _
 
 -- the place of a turn is in the tables
-within : (c : tie.In-loop invariant-loop decreases-loop) → let s = entry c.before in get_or s.args.order.now c.before.loop.k 0 < length s.args.writes.now
-within c = (entry c.before).pre.0.placed.below c.before.loop.k c.loop-test.true
+within : (c : tie.In-loop-k invariant-loop decreases-loop) → let s = entry c.before in get_or s.args.order.now c.before.loop-k.k 0 < length s.args.writes.now
+within c = (entry c.before).requires.0.placed.below c.before.loop-k.k c.loop-k-test.true
 
-loop-holds : tie.Need-loop-init invariant-loop decreases-loop
+loop-holds : tie.Need-loop-k-init invariant-loop decreases-loop
 loop-holds c = (omega arith, carried_none _ _ _)
 
-carry-place-requires : tie.Need-carry-place-requires invariant-loop decreases-loop
+carry-place-requires : tie.Need-carry_place-requires invariant-loop decreases-loop
 carry-place-requires c κs =
-    let m : tie.In-loop invariant-loop decreases-loop = search in
+    let m : tie.In-loop-k invariant-loop decreases-loop = search in
     let s = entry m.before in
-    (within m, s.pre.0.listed, s.pre.0.settings m.before.loop.k m.loop-test.taken, same m.before ∙ s.pre.1)
+    (within m, s.requires.0.listed, s.requires.0.settings m.before.loop-k.k m.loop-k-test.true, same m.before ∙ s.requires.1)
 
-loop-again : tie.Need-loop-preserved invariant-loop decreases-loop
+loop-again : tie.Need-loop-k-preserved invariant-loop decreases-loop
 loop-again c =
-    let l : tie.At-loop invariant-loop decreases-loop = search in
-    let carried : tie.After-carry-place invariant-loop decreases-loop = search in
-    (omega arith, carried-next _ _ _ l.loop.k l.loop.inv.1 carried.carry-place.ensures)
+    let l : tie.At-loop-k invariant-loop decreases-loop = search in
+    let carried : tie.After-carry_place invariant-loop decreases-loop = search in
+    (omega arith, carried-next _ _ _ l.loop-k.k l.loop-k.invariant.1 carried.carry_place.ensures)
 
 returns : tie.Need-returns invariant-loop decreases-loop
 returns c =
-    let l : tie.At-loop invariant-loop decreases-loop = search in
-    let e : l.loop.k ≡ (entry l).args.count = omega arith in
-    rw e at l.loop.inv.1
+    let l : tie.At-loop-k invariant-loop decreases-loop = search in
+    let e : l.loop-k.k ≡ (entry l).args.count = omega arith in
+    rw e at l.loop-k.invariant.1
 
-pub carry-first-spec : {M : Type 1} → statement M
-carry-first-spec =
+pub carry_first_spec : {M : Type 1} → statement M
+carry_first_spec =
     tie.close
     (tie.spec
     invariant-loop
     decreases-loop
     loop-holds
-    (λ c. omega (arith, (entry c.before).pre.0.placed.long))
-    (λ c. let turn : tie.In-loop invariant-loop decreases-loop = search in omega (arith, (entry turn.before).pre.0.placed.long, turn.loop-test.taken))
-    (λ c. omega (arith, within (search), (entry (search)).pre.0.listed.capacity))
+    (λ c. omega (arith, (entry c.before).requires.0.placed.long))
+    (λ c. let turn : tie.In-loop-k invariant-loop decreases-loop = search in omega (arith, (entry turn.before).requires.0.placed.long, turn.loop-k-test.true))
+    (λ c. omega (arith, within (search), (entry (search)).requires.0.listed.capacity))
     carry-place-requires
     (λ c. search rules)
     (λ c. search rules)

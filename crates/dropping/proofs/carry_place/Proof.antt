@@ -9,13 +9,13 @@ use Rattle.dropping.proofs.Carried.{CarriedPart, part_none, part_length, part-ne
 use Rattle.dropping.proofs.carry_place.Statement.{statement}
 use Rattle.dropping.proofs.carry_place.Tie as tie
 
-abbrev invariant-loop : tie.invariant-loop
+abbrev invariant-loop : tie.invariant-loop-j
 invariant-loop place writes targets written values₀ begin count j₀ values j = (j ≤ count) × CarriedPart begin targets written j values₀ values
 
-abbrev decreases-loop : tie.decreases-loop
+abbrev decreases-loop : tie.decreases-loop-j
 decreases-loop place writes targets written values₀ begin count j₀ values j = count - j
 
-abbrev entry : tie.At-loop invariant-loop decreases-loop → tie.Start invariant-loop decreases-loop
+abbrev entry : tie.At-loop-j invariant-loop decreases-loop → tie.Start invariant-loop decreases-loop
 entry l = search
 
 -- the slots of the place's writes stand in both tables
@@ -26,34 +26,34 @@ room s =
     (omega (arith, s.requires.0, w.capacity), short, omega (arith, s.requires.0, w.target-slots, short), omega (arith, s.requires.0, w.value-slots, short))
 
 -- the target of a turn is a setting
-below : (c : tie.In-loop invariant-loop decreases-loop) → let s = entry c.before in get_or s.args.targets.now (32 * s.args.place + c.before.loop.j) 0 < setting_count
+below : (c : tie.In-loop-j invariant-loop decreases-loop) → let s = entry c.before in get_or s.args.targets.now (32 * s.args.place + c.before.loop-j.j) 0 < setting_count
 below c =
     let s = entry c.before in
-    slot-below s.args.place _ s.args.targets.now s.pre.2 (room s).2 c.before.loop.j c.loop-test.true
+    slot-below s.args.place _ s.args.targets.now s.requires.2 (room s).2 c.before.loop-j.j c.loop-j-test.true
 
-loop-holds : tie.Need-loop-init invariant-loop decreases-loop
+loop-holds : tie.Need-loop-j-init invariant-loop decreases-loop
 loop-holds c = (omega arith, part_none)
 
-slice-set-from-values : tie.Need-slice-set-from-values invariant-loop decreases-loop
+slice-set-from-values : tie.Need-bounds-values-s invariant-loop decreases-loop
 slice-set-from-values c =
-    let turn : tie.In-loop invariant-loop decreases-loop = search in
-    omega (arith, below turn, part_length turn.before.loop.inv.1, (entry turn.before).pre.3)
+    let turn : tie.In-loop-j invariant-loop decreases-loop = search in
+    omega (arith, below turn, part_length turn.before.loop-j.invariant.1, (entry turn.before).requires.3)
 
-loop-again : tie.Need-loop-preserved invariant-loop decreases-loop
+loop-again : tie.Need-loop-j-preserved invariant-loop decreases-loop
 loop-again c =
-    let turn : tie.In-loop invariant-loop decreases-loop = search in
+    let turn : tie.In-loop-j invariant-loop decreases-loop = search in
     let r = room (entry turn.before) in
-    (omega arith, part-next (omega (arith, r, turn.loop-test.taken)) (omega (arith, r, turn.loop-test.taken)) (search rules) turn.before.loop.inv.1)
+    (omega arith, part-next (omega (arith, r, turn.loop-j-test.true)) (omega (arith, r, turn.loop-j-test.true)) (search rules) turn.before.loop-j.invariant.1)
 
 returns : tie.Need-returns invariant-loop decreases-loop
 returns c =
-    let l = c.before.loop in
+    let l = c.before.loop-j in
     let a = (entry c.before).args in
     let e : l.j ≡ get_or a.writes.now a.place 0 = omega arith in
     part-last e l.invariant.1
 
-pub carry-place-spec : {M : Type 1} → statement M
-carry-place-spec =
+pub carry_place_spec : {M : Type 1} → statement M
+carry_place_spec =
     tie.close
     (tie.spec
     invariant-loop
@@ -75,5 +75,5 @@ carry-place-spec =
     (λ c. omega (arith, room (search)))
     (λ c. search rules)
     loop-again
-    (λ c. part_length c.before.loop.invariant.1)
+    (λ c. part_length c.before.loop-j.invariant.1)
     returns)

@@ -7,30 +7,30 @@ use Rattle.execution.proofs.Steps.{made-ran, made-cleared, made_none}
 use Rattle.execution.proofs.new_lists.Statement.{statement}
 use Rattle.execution.proofs.new_lists.Tie as tie
 
-returns : tie.Need-returns
-returns c = let at-enum-told : tie.After-enum-told = search in (made-ran at-enum-told.enum_told.given.1 c.run-change.ensures.0, c.run-change.ensures.1)
+returns : tie.Need-returns-in-Run
+returns c = let at-enum-told : tie.In-Run = search in (made-ran at-enum-told.enum_told-1.given.1 c.run_change.ensures.0, c.run_change.ensures.1)
 
-returns-2 : tie.Need-returns-2
+returns-2 : tie.Need-returns-in-Clear
 returns-2 c =
-    let at-enum-told2 : tie.After-enum-told2 = search in
+    let at-enum-told2 : tie.In-Clear = search in
     let start : tie.Start = search in
-    let p = start.pre in
+    let p = start.requires in
     let n = c.new.ensures in
-    (made-cleared at-enum-told2.enum-told2.given.1 p.1 (ap (λ (r : Run). r.reads) n) (ap (λ (r : Run). r.writes) n), looked-none p.2.right)
+    (made-cleared at-enum-told2.enum_told-in-Clear-1.given.1 p.1 (ap (λ (r : Run). r.reads) n) (ap (λ (r : Run). r.writes) n), looked-none p.2.right)
 
-returns-3 : tie.Need-returns-3
+returns-3 : tie.Need-returns-in-Stand
 returns-3 c =
-    let at-enum-told3 : tie.After-enum-told3 = search in
+    let at-enum-told3 : tie.In-Stand = search in
     let start : tie.Start = search in
-    let p = start.pre in
-    (made_none at-enum-told3.enum-told3.given.1 p.1, looked-none p.2.right)
+    let p = start.requires in
+    (made_none at-enum-told3.enum_told-in-Stand-1.given.1 p.1, looked-none p.2.right)
 
-pub new-lists-spec : {M : Type 1} → statement M
-new-lists-spec =
+pub new_lists_spec : {M : Type 1} → statement M
+new_lists_spec =
     tie.close
     (tie.spec
     (λ c. search rules)
-    (λ c κs. let start : tie.Start = search in start.pre)
+    (λ c κs. let start : tie.Start = search in start.requires)
     (λ c. search rules)
     (λ c κs. tt)
     (λ c. search rules)

@@ -6,32 +6,32 @@ use Rattle.answer_numbers.proofs.Numbers.{same_answer, of-call}
 use Rattle.export_cutoff.proofs.tolbezun_cutoff.Statement.{statement}
 use Rattle.export_cutoff.proofs.tolbezun_cutoff.Tie as tie
 
-abbrev called : tie.After-answer-number → tie.After-raise-cutoff
+abbrev called : tie.After-answer_number → tie.After-raise_cutoff
 called c = search
 
 returns : tie.Need-returns
-returns c = of-call (answering answer_number) (same_answer c.answer-number.ensures) (called c).raise-cutoff.ensures
+returns c = of-call (answering answer_number) (same_answer c.answer_number.ensures) (called c).raise_cutoff.ensures
 
-pub tolbezun-cutoff-spec : {M : Type 1} → statement M
-tolbezun-cutoff-spec =
+pub tolbezun_cutoff_spec : {M : Type 1} → statement M
+tolbezun_cutoff_spec =
     tie.close
     (tie.spec
     (λ c κs. tt)
     (λ c κs. tt)
-    (λ c. omega (arith, (called c).raise-cutoff.auto))
-    (λ c. omega (arith, (called c).raise-cutoff.auto))
-    (λ c. omega (arith, (called c).raise-cutoff.auto))
-    (λ c. omega (arith, (called c).raise-cutoff.auto))
-    (λ c. omega (arith, (called c).raise-cutoff.auto))
-    (λ c. omega (arith, (called c).raise-cutoff.auto))
-    (λ c. omega (arith, (called c).raise-cutoff.auto))
-    (λ c. omega (arith, (called c).raise-cutoff.auto))
-    (λ c. omega (arith, (called c).raise-cutoff.auto))
-    (λ c. omega (arith, (called c).raise-cutoff.auto))
-    (λ c. omega (arith, (called c).raise-cutoff.auto))
-    (λ c. omega (arith, (called c).raise-cutoff.auto))
-    (λ c. omega (arith, (called c).raise-cutoff.auto))
-    (λ c. omega (arith, (called c).raise-cutoff.auto))
-    (λ c. omega (arith, (called c).raise-cutoff.auto))
-    (λ c. omega (arith, (called c).raise-cutoff.auto))
+    (λ c. omega (arith, (called c).raise_cutoff.auto))
+    (λ c. omega (arith, (called c).raise_cutoff.auto))
+    (λ c. omega (arith, (called c).raise_cutoff.auto))
+    (λ c. omega (arith, (called c).raise_cutoff.auto))
+    (λ c. omega (arith, (called c).raise_cutoff.auto))
+    (λ c. omega (arith, (called c).raise_cutoff.auto))
+    (λ c. omega (arith, (called c).raise_cutoff.auto))
+    (λ c. omega (arith, (called c).raise_cutoff.auto))
+    (λ c. omega (arith, (called c).raise_cutoff.auto))
+    (λ c. omega (arith, (called c).raise_cutoff.auto))
+    (λ c. omega (arith, (called c).raise_cutoff.auto))
+    (λ c. omega (arith, (called c).raise_cutoff.auto))
+    (λ c. omega (arith, (called c).raise_cutoff.auto))
+    (λ c. omega (arith, (called c).raise_cutoff.auto))
+    (λ c. omega (arith, (called c).raise_cutoff.auto))
+    (λ c. omega (arith, (called c).raise_cutoff.auto))
     returns)

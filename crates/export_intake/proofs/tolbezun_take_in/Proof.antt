@@ -6,14 +6,14 @@ use Rattle.answer_numbers.proofs.Numbers.{same_answer, of-call}
 use Rattle.export_intake.proofs.tolbezun_take_in.Statement.{statement}
 use Rattle.export_intake.proofs.tolbezun_take_in.Tie as tie
 
-abbrev called : tie.After-answer-number → tie.After-take-in
+abbrev called : tie.After-answer_number → tie.After-take_in
 called c = search
 
 returns : tie.Need-returns
-returns c = of-call (answering answer_number) (same_answer c.answer-number.ensures) (called c).take_in.ensures
+returns c = of-call (answering answer_number) (same_answer c.answer_number.ensures) (called c).take_in.ensures
 
-pub tolbezun-take-in-spec : {M : Type 1} → statement M
-tolbezun-take-in-spec =
+pub tolbezun_take_in_spec : {M : Type 1} → statement M
+tolbezun_take_in_spec =
     tie.close
     (tie.spec
     (λ c κs. tt)

@@ -6,14 +6,14 @@ use Rattle.answer_numbers.proofs.Numbers.{same_answer, of-call}
 use Rattle.export_intake.proofs.tolbezun_withdraw.Statement.{statement}
 use Rattle.export_intake.proofs.tolbezun_withdraw.Tie as tie
 
-abbrev called : tie.After-answer-number → tie.After-withdraw
+abbrev called : tie.After-answer_number → tie.After-withdraw
 called c = search
 
 returns : tie.Need-returns
-returns c = of-call (answering answer_number) (same_answer c.answer-number.ensures) (called c).withdraw.ensures
+returns c = of-call (answering answer_number) (same_answer c.answer_number.ensures) (called c).withdraw.ensures
 
-pub tolbezun-withdraw-spec : {M : Type 1} → statement M
-tolbezun-withdraw-spec =
+pub tolbezun_withdraw_spec : {M : Type 1} → statement M
+tolbezun_withdraw_spec =
     tie.close
     (tie.spec
     (λ c κs. tt)

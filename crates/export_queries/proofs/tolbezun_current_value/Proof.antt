@@ -11,8 +11,8 @@ use Rattle.export_queries.proofs.tolbezun_current_value.Tie as tie
 
 returns : tie.Need-returns
 returns c =
-    to_z-of_z (sfits_of c.value-number.type-inv)
-    ∙ of-call (λ (v : Value). value_number (value_given v)) c.value-number.ensures c.before.current-value.ensures
+    to_z-of_z (sfits_of c.value_number.type-inv)
+    ∙ of-call (λ (v : Value). value_number (value_given v)) c.value_number.ensures c.before.current_value.ensures
 
-pub tolbezun-current-value-spec : {M : Type 1} → statement M
-tolbezun-current-value-spec = tie.close (tie.spec (λ c κs. tt) (λ c κs. tt) returns)
+pub tolbezun_current_value_spec : {M : Type 1} → statement M
+tolbezun_current_value_spec = tie.close (tie.spec (λ c κs. tt) (λ c κs. tt) returns)

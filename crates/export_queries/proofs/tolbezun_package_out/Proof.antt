@@ -5,13 +5,13 @@ use Rattle.answer_numbers.proofs.Numbers.{same_number, of-call}
 use Rattle.export_queries.proofs.tolbezun_package_out.Statement.{statement}
 use Rattle.export_queries.proofs.tolbezun_package_out.Tie as tie
 
-abbrev called : tie.After-packed-number → tie.After-package-out
+abbrev called : tie.After-packed_number → tie.After-package_out
 called c = search
 
 returns : tie.Need-returns
-returns c = of-call packed_numbers (same_number c.packed-number.ensures) (called c).package-out.ensures
+returns c = of-call packed_numbers (same_number c.packed_number.ensures) (called c).package_out.ensures
 
-pub tolbezun-package-out-spec : {M : Type 1} → statement M
-tolbezun-package-out-spec =
+pub tolbezun_package_out_spec : {M : Type 1} → statement M
+tolbezun_package_out_spec =
     tie.close
-    (tie.spec (λ c κs. tt) (λ c κs. tt) (λ c. omega (arith, (called c).package-out.auto)) returns)
+    (tie.spec (λ c κs. tt) (λ c κs. tt) (λ c. omega (arith, (called c).package_out.auto)) returns)

@@ -5,13 +5,13 @@ use Rattle.answer_numbers.proofs.Numbers.{same_number, of-call}
 use Rattle.export_queries.proofs.tolbezun_plain_run.Statement.{statement}
 use Rattle.export_queries.proofs.tolbezun_plain_run.Tie as tie
 
-abbrev called : tie.After-answer-number → tie.After-plain-run
+abbrev called : tie.After-answer_number → tie.After-plain_run
 called c = search
 
 returns : tie.Need-returns
-returns c = of-call plain_numbers (same_number c.answer-number.ensures) (called c).plain-run.ensures
+returns c = of-call plain_numbers (same_number c.answer_number.ensures) (called c).plain_run.ensures
 
-pub tolbezun-plain-run-spec : {M : Type 1} → statement M
-tolbezun-plain-run-spec =
+pub tolbezun_plain_run_spec : {M : Type 1} → statement M
+tolbezun_plain_run_spec =
     tie.close
-    (tie.spec (λ c κs. tt) (λ c κs. tt) (λ c. omega (arith, (called c).plain-run.auto)) returns)
+    (tie.spec (λ c κs. tt) (λ c κs. tt) (λ c. omega (arith, (called c).plain_run.auto)) returns)

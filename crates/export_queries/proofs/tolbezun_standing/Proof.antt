@@ -7,7 +7,7 @@ use Rattle.export_queries.proofs.tolbezun_standing.Statement.{statement}
 use Rattle.export_queries.proofs.tolbezun_standing.Tie as tie
 
 returns : tie.Need-returns
-returns c = of-call (λ (s : Standing). standing_number (standing_given s)) c.standing-number.ensures c.before.standing.ensures
+returns c = of-call (λ (s : Standing). standing_number (standing_given s)) c.standing_number.ensures c.before.standing.ensures
 
-pub tolbezun-standing-spec : {M : Type 1} → statement M
-tolbezun-standing-spec = tie.close (tie.spec (λ c κs. tt) (λ c κs. tt) returns)
+pub tolbezun_standing_spec : {M : Type 1} → statement M
+tolbezun_standing_spec = tie.close (tie.spec (λ c κs. tt) (λ c κs. tt) returns)

@@ -11,8 +11,8 @@ use Rattle.export_queries.proofs.tolbezun_value_as_of.Tie as tie
 
 returns : tie.Need-returns
 returns c =
-    to_z-of_z (sfits_of c.value-number.type-inv)
-    ∙ of-call (λ (v : Value). value_number (value_given v)) c.value-number.ensures c.before.value-as-of.ensures
+    to_z-of_z (sfits_of c.value_number.type-inv)
+    ∙ of-call (λ (v : Value). value_number (value_given v)) c.value_number.ensures c.before.value_as_of.ensures
 
-pub tolbezun-value-as-of-spec : {M : Type 1} → statement M
-tolbezun-value-as-of-spec = tie.close (tie.spec (λ c κs. tt) (λ c κs. tt) returns)
+pub tolbezun_value_as_of_spec : {M : Type 1} → statement M
+tolbezun_value_as_of_spec = tie.close (tie.spec (λ c κs. tt) (λ c κs. tt) returns)

@@ -6,33 +6,33 @@ use Rattle.answer_numbers.proofs.Numbers.{same_answer, of-call}
 use Rattle.export_setup.proofs.tolbezun_set_up.Statement.{statement}
 use Rattle.export_setup.proofs.tolbezun_set_up.Tie as tie
 
-abbrev called : tie.After-answer-number → tie.After-set-up
+abbrev called : tie.After-answer_number → tie.After-set_up
 called c = search
 
 returns : tie.Need-returns
-returns c = of-call (answering answer_number) (same_answer c.answer-number.ensures) (called c).set-up.ensures
+returns c = of-call (answering answer_number) (same_answer c.answer_number.ensures) (called c).set_up.ensures
 
-pub tolbezun-set-up-spec : {M : Type 1} → statement M
-tolbezun-set-up-spec =
+pub tolbezun_set_up_spec : {M : Type 1} → statement M
+tolbezun_set_up_spec =
     tie.close
     (tie.spec
     (λ c κs. tt)
     (λ c κs. tt)
-    (λ c. omega (arith, (called c).set-up.auto))
-    (λ c. omega (arith, (called c).set-up.auto))
-    (λ c. omega (arith, (called c).set-up.auto))
-    (λ c. omega (arith, (called c).set-up.auto))
-    (λ c. omega (arith, (called c).set-up.auto))
-    (λ c. omega (arith, (called c).set-up.auto))
-    (λ c. omega (arith, (called c).set-up.auto))
-    (λ c. omega (arith, (called c).set-up.auto))
-    (λ c. omega (arith, (called c).set-up.auto))
-    (λ c. omega (arith, (called c).set-up.auto))
-    (λ c. omega (arith, (called c).set-up.auto))
-    (λ c. omega (arith, (called c).set-up.auto))
-    (λ c. omega (arith, (called c).set-up.auto))
-    (λ c. omega (arith, (called c).set-up.auto))
-    (λ c. omega (arith, (called c).set-up.auto))
-    (λ c. omega (arith, (called c).set-up.auto))
-    (λ c. omega (arith, (called c).set-up.auto))
+    (λ c. omega (arith, (called c).set_up.auto))
+    (λ c. omega (arith, (called c).set_up.auto))
+    (λ c. omega (arith, (called c).set_up.auto))
+    (λ c. omega (arith, (called c).set_up.auto))
+    (λ c. omega (arith, (called c).set_up.auto))
+    (λ c. omega (arith, (called c).set_up.auto))
+    (λ c. omega (arith, (called c).set_up.auto))
+    (λ c. omega (arith, (called c).set_up.auto))
+    (λ c. omega (arith, (called c).set_up.auto))
+    (λ c. omega (arith, (called c).set_up.auto))
+    (λ c. omega (arith, (called c).set_up.auto))
+    (λ c. omega (arith, (called c).set_up.auto))
+    (λ c. omega (arith, (called c).set_up.auto))
+    (λ c. omega (arith, (called c).set_up.auto))
+    (λ c. omega (arith, (called c).set_up.auto))
+    (λ c. omega (arith, (called c).set_up.auto))
+    (λ c. omega (arith, (called c).set_up.auto))
     returns)

@@ -5,14 +5,14 @@ use Rattle.answer_numbers.proofs.Numbers.{same_number, same_answer, of-call}
 use Rattle.export_turns.proofs.tolbezun_drain.Statement.{statement}
 use Rattle.export_turns.proofs.tolbezun_drain.Tie as tie
 
-abbrev called : tie.After-answer-number → tie.After-drain
+abbrev called : tie.After-answer_number → tie.After-drain
 called c = search
 
 returns : tie.Need-returns
-returns c = of-call totals_numbers (same_answer (same_number c.answer-number.ensures)) (called c).drain.ensures
+returns c = of-call totals_numbers (same_answer (same_number c.answer_number.ensures)) (called c).drain.ensures
 
-pub tolbezun-drain-spec : {M : Type 1} → statement M
-tolbezun-drain-spec =
+pub tolbezun_drain_spec : {M : Type 1} → statement M
+tolbezun_drain_spec =
     tie.close
     (tie.spec
     (λ c κs. tt)

@@ -15,34 +15,34 @@ use Rattle.general.proofs.Places.{the}
 use Rattle.form_lists.proofs.lists_fit.Statement.{statement}
 use Rattle.form_lists.proofs.lists_fit.Tie as tie
 
-abbrev invariant-loop : tie.invariant-loop
+abbrev invariant-loop : tie.invariant-loop-i
 invariant-loop count counts settings values marks₀ i₀ marks i =
     (i ≤ count) × (all_below i (list_fits counts settings values) ≡ true) × MarkedBelow (i + 1) marks
 
-abbrev decreases-loop : tie.decreases-loop
+abbrev decreases-loop : tie.decreases-loop-i
 decreases-loop count counts settings values marks₀ i₀ marks i = count - i
 
-loop-holds : tie.Need-loop-init invariant-loop decreases-loop
+loop-holds : tie.Need-loop-i-init invariant-loop decreases-loop
 unfolding all_below
 loop-holds c = (omega arith, refl, no-marks)
 
-returns : tie.Need-returns invariant-loop decreases-loop
-returns c = let t : tie.In-loop invariant-loop decreases-loop = search in sym (not_all_below _ _ _ t.loop-test.taken (sym c.before.list-fits.ensures.0 ∙ not-true _ c.if1.true))
+returns : tie.Need-returns-then-not-list_fits invariant-loop decreases-loop
+returns c = let t : tie.In-loop-i invariant-loop decreases-loop = search in sym (not_all_below _ _ _ t.loop-i-test.true (sym c.before.list_fits.ensures.0 ∙ not-true _ c.if-not-list_fits.true))
 
-loop-again : tie.Need-loop-preserved invariant-loop decreases-loop
+loop-again : tie.Need-loop-i-preserved invariant-loop decreases-loop
 loop-again c =
-    let f = c.before.list-fits.ensures in
-    (omega arith, all-below-next _ _ (the (tie.At-loop invariant-loop decreases-loop) (search)).loop.inv.1 (sym f.0 ∙ not-false _ c.if1.false), marked-later (omega arith) f.1)
+    let f = c.before.list_fits.ensures in
+    (omega arith, all-below-next _ _ (the (tie.At-loop-i invariant-loop decreases-loop) (search)).loop-i.invariant.1 (sym f.0 ∙ not-false _ c.if-not-list_fits.false), marked-later (omega arith) f.1)
 
-returns-2 : tie.Need-returns-2 invariant-loop decreases-loop
+returns-2 : tie.Need-returns invariant-loop decreases-loop
 returns-2 c =
-    let at-loop : tie.At-loop invariant-loop decreases-loop = search in
+    let at-loop : tie.At-loop-i invariant-loop decreases-loop = search in
     let start : tie.Start invariant-loop decreases-loop = search in
-    let e : c.before.loop.i ≡ start.args.count = omega arith in
-    sym (rw e at at-loop.loop.inv.1)
+    let e : c.before.loop-i.i ≡ start.args.count = omega arith in
+    sym (rw e at at-loop.loop-i.invariant.1)
 
-pub lists-fit-spec : {M : Type 1} → statement M
-lists-fit-spec =
+pub lists_fit_spec : {M : Type 1} → statement M
+lists_fit_spec =
     tie.close
     (tie.spec
     invariant-loop

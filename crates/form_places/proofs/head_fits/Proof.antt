@@ -4,7 +4,7 @@ use Rattle.form_places.proofs.head_fits.Statement.{statement}
 use Rattle.form_places.proofs.head_fits.Tie as tie
 
 returns : tie.Need-returns
-returns c = rw c.is-timestamp.ensures (simp (and_assoc, and-true))
+returns c = rw c.is_timestamp.ensures (simp (and_assoc, and-true))
 
-pub head-fits-spec : {M : Type 1} → statement M
-head-fits-spec = tie.close (tie.spec (λ c κs. tt) returns)
+pub head_fits_spec : {M : Type 1} → statement M
+head_fits_spec = tie.close (tie.spec (λ c κs. tt) returns)

@@ -6,22 +6,22 @@ use Rattle.general.proofs.Checks.{Tested, test-none, test-next, test-last}
 use Rattle.form_places.proofs.heads_fit.Statement.{statement}
 use Rattle.form_places.proofs.heads_fit.Tie as tie
 
-abbrev invariant-loop : tie.invariant-loop
+abbrev invariant-loop : tie.invariant-loop-i
 invariant-loop count timestamps status withdrawn reads writes versions fits₀ i₀ fits i = Tested (head_fits timestamps status withdrawn reads writes versions) count i fits
 
-abbrev decreases-loop : tie.decreases-loop
+abbrev decreases-loop : tie.decreases-loop-i
 decreases-loop count timestamps status withdrawn reads writes versions fits₀ i₀ fits i = count - i
 
-loop-again : tie.Need-loop-preserved invariant-loop decreases-loop
+loop-again : tie.Need-loop-i-preserved invariant-loop decreases-loop
 loop-again c =
-    let t : tie.In-loop invariant-loop decreases-loop = search in
-    test-next t.loop-test.taken c.head-fits.ensures t.before.loop.inv
+    let t : tie.In-loop-i invariant-loop decreases-loop = search in
+    test-next t.loop-i-test.true c.head_fits-fits.ensures t.before.loop-i.invariant
 
 returns : tie.Need-returns invariant-loop decreases-loop
-returns c = let at-loop : tie.At-loop invariant-loop decreases-loop = search in test-last c.loop-test.false at-loop.loop.inv
+returns c = let at-loop : tie.At-loop-i invariant-loop decreases-loop = search in test-last c.loop-i-test.false at-loop.loop-i.invariant
 
-pub heads-fit-spec : {M : Type 1} → statement M
-heads-fit-spec =
+pub heads_fit_spec : {M : Type 1} → statement M
+heads_fit_spec =
     tie.close
     (tie.spec
     invariant-loop

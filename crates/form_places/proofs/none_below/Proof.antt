@@ -7,20 +7,20 @@ use Rattle.general.proofs.Checks.{Tested, test-none, test-next, test-last}
 use Rattle.form_places.proofs.none_below.Statement.{statement}
 use Rattle.form_places.proofs.none_below.Tie as tie
 
-abbrev invariant-loop : tie.invariant-loop
+abbrev invariant-loop : tie.invariant-loop-i
 invariant-loop count cutoff timestamps fits₀ i₀ fits i = Tested (from_cutoff cutoff timestamps) count i fits
 
-abbrev decreases-loop : tie.decreases-loop
+abbrev decreases-loop : tie.decreases-loop-i
 decreases-loop count cutoff timestamps fits₀ i₀ fits i = count - i
 
-loop-again : tie.Need-loop-preserved invariant-loop decreases-loop
-loop-again c = let t = c.before in test-next t.loop-test.true refl t.before.loop.invariant
+loop-again : tie.Need-loop-i-preserved invariant-loop decreases-loop
+loop-again c = let t = c.before in test-next t.loop-i-test.true refl t.before.loop-i.invariant
 
 returns : tie.Need-returns invariant-loop decreases-loop
-returns c = test-last c.loop-test.false c.before.loop.invariant
+returns c = test-last c.loop-i-test.false c.before.loop-i.invariant
 
-pub none-below-spec : {M : Type 1} → statement M
-none-below-spec =
+pub none_below_spec : {M : Type 1} → statement M
+none_below_spec =
     tie.close
     (tie.spec
     invariant-loop

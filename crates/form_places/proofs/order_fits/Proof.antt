@@ -14,12 +14,12 @@ use Rattle.general.proofs.Places.{the}
 use Rattle.form_places.proofs.order_fits.Statement.{statement}
 use Rattle.form_places.proofs.order_fits.Tie as tie
 
-abbrev invariant-loop : tie.invariant-loop
+abbrev invariant-loop : tie.invariant-loop-k
 invariant-loop count order timestamps fits₀ last₀ k₀ fits last k =
     Tested (order_fits order timestamps count) count k fits
     × ((k ≡ 0 → ⊥) → last ≡ timestamp_of order timestamps (k - 1))
 
-abbrev decreases-loop : tie.decreases-loop
+abbrev decreases-loop : tie.decreases-loop-k
 decreases-loop count order timestamps fits₀ last₀ k₀ fits last k = count - k
 
 -- the test of an entry goes by the timestamp of the one before, where there is one
@@ -30,22 +30,22 @@ entry-fits order timestamps count k last h = ap (λ (t : Bool). ltb (get_or orde
     go true e = refl
     go false e = ap (λ (x : ℕ). ltb x (timestamp_of order timestamps k)) (h (eqb-false k 0 e))
 
-loop-again : tie.Need-loop-preserved invariant-loop decreases-loop
+loop-again : tie.Need-loop-k-preserved invariant-loop decreases-loop
 loop-again c =
-    let at-in-loop : tie.In-loop invariant-loop decreases-loop = search in
-    let at-loop : tie.At-loop invariant-loop decreases-loop = search in
+    let at-in-loop : tie.In-loop-k invariant-loop decreases-loop = search in
+    let at-loop : tie.At-loop-k invariant-loop decreases-loop = search in
     let start : tie.Start invariant-loop decreases-loop = search in
-    let i = at-loop.loop in
+    let i = at-loop.loop-k in
     let a = start.args in
-    let e = c.timestamp-at.ensures in
+    let e = c.timestamp_at-timestamp.ensures in
     let k : i.k ≡ i.k + 1 - 1 = omega arith in
-    (test-next at-in-loop.loop-test.taken (rw e (entry-fits a.order.now a.timestamps.now a.count i.k i.last i.inv.1)) i.inv.0, λ h. e ∙ ap (timestamp_of a.order.now a.timestamps.now) k)
+    (test-next at-in-loop.loop-k-test.true (rw e (entry-fits a.order.now a.timestamps.now a.count i.k i.last i.invariant.1)) i.invariant.0, λ h. e ∙ ap (timestamp_of a.order.now a.timestamps.now) k)
 
 returns : tie.Need-returns invariant-loop decreases-loop
-returns c = let at-loop : tie.At-loop invariant-loop decreases-loop = search in test-last c.loop-test.false at-loop.loop.inv.0
+returns c = let at-loop : tie.At-loop-k invariant-loop decreases-loop = search in test-last c.loop-k-test.false at-loop.loop-k.invariant.0
 
-pub order-fits-spec : {M : Type 1} → statement M
-order-fits-spec =
+pub order_fits_spec : {M : Type 1} → statement M
+order_fits_spec =
     tie.close
     (tie.spec
     invariant-loop
@@ -53,7 +53,7 @@ order-fits-spec =
     (λ c. (test-none, λ h. absurd (h refl)))
     (λ c. search rules)
     (λ c. search rules)
-    (λ c. omega (arith, c.shared-slice-known3.given (the (tie.At-loop invariant-loop decreases-loop) (search)).loop.k))
+    (λ c. omega (arith, c.shared_slice_known-in-loop-k-1.given (the (tie.At-loop-k invariant-loop decreases-loop) (search)).loop-k.k))
     (λ c κs. search rules)
     (λ c. search rules)
     (λ c. search rules)

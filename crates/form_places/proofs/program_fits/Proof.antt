@@ -13,24 +13,24 @@ use Rattle.general.proofs.Places.{the}
 use Rattle.form_places.proofs.program_fits.Statement.{statement}
 use Rattle.form_places.proofs.program_fits.Tie as tie
 
-cast-length : tie.Need-overflow-cast-length
-cast-length c = omega (arith, c.shared-slice-known3.given (the tie.Start (search)).args.i)
+cast-length : tie.Need-overflow_cast-length
+cast-length c = omega (arith, c.shared_slice_known-3-1.given (the tie.Start (search)).args.i)
 
-returns : tie.Need-returns
+returns : tie.Need-returns-then-length-gt32
 returns c = let start : tie.Start = search in let a = start.args in rw (lt-leb (get_or a.lengths.now a.i 0) 32 (omega arith))
 
-returns-2 : tie.Need-returns-2
+returns-2 : tie.Need-returns
 returns-2 c =
     let at-well-formed : tie.After-well-formed = search in
     let start : tie.Start = search in
     let a = start.args in
     let n = get_or a.lengths.now a.i 0 in
     let formed = at-well-formed.well-formed.ensures ∙ ap all_well_formed (used-part 256 a.i (8 * n) a.programs.now) in
-    let rest = c.all-zero-u8.ensures ∙ ap all_zero (rest_part 256 a.i (8 * n) a.programs.now) ∙ sym (and-true _) in
+    let rest = c.all_zero_u8.ensures ∙ ap all_zero (rest_part 256 a.i (8 * n) a.programs.now) ∙ sym (and-true _) in
     rw (le-leb n 32 (omega arith)) (λ j. formed j && rest j)
 
-pub program-fits-spec : {M : Type 1} → statement M
-program-fits-spec =
+pub program_fits_spec : {M : Type 1} → statement M
+program_fits_spec =
     tie.close
     (tie.spec
     (λ c. search rules)

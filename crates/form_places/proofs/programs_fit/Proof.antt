@@ -13,31 +13,31 @@ use Rattle.general.proofs.Places.{the}
 use Rattle.form_places.proofs.programs_fit.Statement.{statement}
 use Rattle.form_places.proofs.programs_fit.Tie as tie
 
-abbrev invariant-loop : tie.invariant-loop
+abbrev invariant-loop : tie.invariant-loop-i
 invariant-loop count lengths programs i₀ i = (i ≤ count) × (all_below i (program_fits lengths programs) ≡ true)
 
-abbrev decreases-loop : tie.decreases-loop
+abbrev decreases-loop : tie.decreases-loop-i
 decreases-loop count lengths programs i₀ i = count - i
 
-loop-holds : tie.Need-loop-init invariant-loop decreases-loop
+loop-holds : tie.Need-loop-i-init invariant-loop decreases-loop
 unfolding all_below
 loop-holds c = (omega arith, refl)
 
-returns : tie.Need-returns invariant-loop decreases-loop
-returns c = let t : tie.In-loop invariant-loop decreases-loop = search in sym (not_all_below _ _ _ t.loop-test.taken (sym c.before.program-fits.ensures ∙ not-true _ c.if1.true))
+returns : tie.Need-returns-then-not-program_fits invariant-loop decreases-loop
+returns c = let t : tie.In-loop-i invariant-loop decreases-loop = search in sym (not_all_below _ _ _ t.loop-i-test.true (sym c.before.program_fits.ensures ∙ not-true _ c.if-not-program_fits.true))
 
-loop-again : tie.Need-loop-preserved invariant-loop decreases-loop
-loop-again c = (omega arith, all-below-next _ _ (the (tie.At-loop invariant-loop decreases-loop) (search)).loop.inv.1 (sym c.before.program-fits.ensures ∙ not-false _ c.if1.false))
+loop-again : tie.Need-loop-i-preserved invariant-loop decreases-loop
+loop-again c = (omega arith, all-below-next _ _ (the (tie.At-loop-i invariant-loop decreases-loop) (search)).loop-i.invariant.1 (sym c.before.program_fits.ensures ∙ not-false _ c.if-not-program_fits.false))
 
-returns-2 : tie.Need-returns-2 invariant-loop decreases-loop
+returns-2 : tie.Need-returns invariant-loop decreases-loop
 returns-2 c =
-    let at-loop : tie.At-loop invariant-loop decreases-loop = search in
+    let at-loop : tie.At-loop-i invariant-loop decreases-loop = search in
     let start : tie.Start invariant-loop decreases-loop = search in
-    let e : c.before.loop.i ≡ start.args.count = omega arith in
-    sym (rw e at at-loop.loop.inv.1)
+    let e : c.before.loop-i.i ≡ start.args.count = omega arith in
+    sym (rw e at at-loop.loop-i.invariant.1)
 
-pub programs-fit-spec : {M : Type 1} → statement M
-programs-fit-spec =
+pub programs_fit_spec : {M : Type 1} → statement M
+programs_fit_spec =
     tie.close
     (tie.spec
     invariant-loop

@@ -11,49 +11,49 @@ use Rattle.fresh.proofs.HeldRun.{part-runs, length-held, held_none, held-run, he
 use Rattle.fresh.proofs.run_held.Statement.{statement}
 use Rattle.fresh.proofs.run_held.Tie as tie
 
-abbrev invariant-loop : tie.invariant-loop
+abbrev invariant-loop : tie.invariant-loop-k
 invariant-loop count order withdrawn lengths programs versions values₀ k₀ values k = (k ≤ count) × (values ≡ held_run order withdrawn (code_in lengths programs versions) values₀ k)
 
-abbrev decreases-loop : tie.decreases-loop
+abbrev decreases-loop : tie.decreases-loop-k
 decreases-loop count order withdrawn lengths programs versions values₀ k₀ values k = count - k
 
-loop-holds : tie.Need-loop-init invariant-loop decreases-loop
+loop-holds : tie.Need-loop-k-init invariant-loop decreases-loop
 loop-holds c = (omega arith, held_none _ _ _ _)
 
-abbrev entry : tie.At-loop invariant-loop decreases-loop → tie.Start invariant-loop decreases-loop
+abbrev entry : tie.At-loop-k invariant-loop decreases-loop → tie.Start invariant-loop decreases-loop
 entry c = search
 
-same_length : (c : tie.At-loop invariant-loop decreases-loop) → length c.loop.values ≡ length (entry c).args.values.now
-same_length c = ap length c.loop.invariant.1 ∙ length-held _ _ _ _ _
+same_length : (c : tie.At-loop-k invariant-loop decreases-loop) → length c.loop-k.values-1 ≡ length (entry c).args.values-1.now
+same_length c = ap length c.loop-k.invariant.1 ∙ length-held _ _ _ _ _
 
 -- the place of a turn is below the limit, and its program is short
-known : (c : tie.In-loop invariant-loop decreases-loop) → let s = entry c.before in let place = get_or s.args.order.now c.before.loop.k 0 in (place < s.pre.0.limit) × (get_or s.args.lengths.now place 0 ≤ 32)
+known : (c : tie.In-loop-k invariant-loop decreases-loop) → let s = entry c.before in let place = get_or s.args.order.now c.before.loop-k.k 0 in (place < s.requires.0.limit) × (get_or s.args.lengths.now place 0 ≤ 32)
 known c =
-    let r = (entry c.before).pre.0 in
-    let below = r.placed.below c.before.loop.k (omega arith) in
+    let r = (entry c.before).requires.0 in
+    let below = r.placed.below c.before.loop-k.k (omega arith) in
     (below, r.programmed.short _ below)
 
 apply-requires : tie.Need-apply-requires invariant-loop decreases-loop
 apply-requires c κs =
-    let i : tie.In-loop invariant-loop decreases-loop = search in
+    let i : tie.In-loop-k invariant-loop decreases-loop = search in
     let s = entry i.before in
-    let runs = part-runs s.pre.0.programmed _ (known i).0 in
-    (runs.0, runs.1, same_length i.before ∙ s.pre.1)
+    let runs = part-runs s.requires.0.programmed _ (known i).0 in
+    (runs.0, runs.1, same_length i.before ∙ s.requires.1)
 
-loop-again : tie.Need-loop-preserved invariant-loop decreases-loop
+loop-again : tie.Need-loop-k-preserved invariant-loop decreases-loop
 loop-again c =
-    let at-loop : tie.At-loop invariant-loop decreases-loop = search in
-    let l = at-loop.loop in
-    (omega arith, ⊎_elim (λ w. w.7 ∙ held-run _ _ _ _ l.k l.inv.1 w.0.taken (rw used-part at w.5.ensures)) (λ w. w.1 ∙ held-passed _ _ _ _ l.k l.inv.1 w.0.left) c.if1.branch)
+    let at-loop : tie.At-loop-k invariant-loop decreases-loop = search in
+    let l = at-loop.loop-k in
+    (omega arith, ⊎_elim (λ w. w.7 ∙ held-run _ _ _ _ l.k l.invariant.1 w.0.true (rw used-part at w.5.ensures)) (λ w. w.1 ∙ held-passed _ _ _ _ l.k l.invariant.1 w.0.false) c.if-withdrawn-place-eq0.branch)
 
 returns : tie.Need-returns invariant-loop decreases-loop
 returns c =
-    let at-loop : tie.At-loop invariant-loop decreases-loop = search in
-    let e : at-loop.loop.k ≡ (entry at-loop).args.count = omega arith in
-    rw (← e) at-loop.loop.inv.1
+    let at-loop : tie.At-loop-k invariant-loop decreases-loop = search in
+    let e : at-loop.loop-k.k ≡ (entry at-loop).args.count = omega arith in
+    rw (← e) at-loop.loop-k.invariant.1
 
-pub run-held-spec : {M : Type 1} → statement M
-run-held-spec =
+pub run_held_spec : {M : Type 1} → statement M
+run_held_spec =
     tie.close
     (tie.spec
     invariant-loop
@@ -71,7 +71,7 @@ run-held-spec =
     (λ c. omega (arith, known (search)))
     (λ c. omega (arith, known (search)))
     (λ c. omega (arith, known (search)))
-    (λ c. let i : tie.In-loop invariant-loop decreases-loop = search in omega (arith, (known i).0, (entry i.before).pre.0.versioned))
+    (λ c. let i : tie.In-loop-k invariant-loop decreases-loop = search in omega (arith, (known i).0, (entry i.before).requires.0.versioned))
     (λ c. omega arith)
     (λ c. omega arith)
     (λ c. omega (arith, known (search)))

@@ -6,14 +6,14 @@ use Rattle.fresh.proofs.Start.{start-one, start-zero}
 use Rattle.fresh.proofs.start_value.Statement.{statement}
 use Rattle.fresh.proofs.start_value.Tie as tie
 
-returns : tie.Need-returns
-returns c = start-one _ c.before.if1.true c.if2.true
+returns : tie.Need-returns-then-s-eq2
+returns c = start-one _ c.before.if-s-lt1024.true c.if-s-eq2.true
 
-returns-2 : tie.Need-returns-2
-returns-2 c = start-zero _ c.before.if1.true c.if2.false
+returns-2 : tie.Need-returns-else-s-eq2
+returns-2 c = start-zero _ c.before.if-s-lt1024.true c.if-s-eq2.false
 
-returns-3 : tie.Need-returns-3
+returns-3 : tie.Need-returns-else-s-lt1024
 returns-3 c = sym (start-past _ (omega arith))
 
-pub start-value-spec : {M : Type 1} → statement M
-start-value-spec = tie.close (tie.spec returns returns-2 returns-3)
+pub start_value_spec : {M : Type 1} → statement M
+start_value_spec = tie.close (tie.spec returns returns-2 returns-3)

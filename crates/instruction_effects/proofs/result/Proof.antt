@@ -8,69 +8,69 @@ use Rattle.bytecode.proofs.Numbers.{apart_above, below-limit, below-cast}
 use Rattle.instruction_effects.proofs.result.Statement.{statement}
 use Rattle.instruction_effects.proofs.result.Tie as tie
 
-cast-shift-right : tie.Need-overflow-cast-shift-right
-cast-shift-right c = below-cast _ 32 c.before.ranges.n (c.before.requires.2 c.match.keys6) (omega arith)
+cast-shift-right : tie.Need-overflow_cast-n
+cast-shift-right c = below-cast _ 32 c.before.ranges.n (c.before.requires.2 c.in_default.keys6) (omega arith)
 
-shift-right-requires : tie.Need-shift-right-requires
-shift-right-requires c κs = rw (to_z-of_z c.before.ranges.n) (below-limit c.before.args.n 32 (c.before.requires.2 c.match.keys6))
+shift-right-requires : tie.Need-shift_right-requires
+shift-right-requires c κs = rw (to_z-of_z c.before.ranges.n) (below-limit c.before.args.n 32 (c.before.requires.2 c.in_default.keys6))
 
-returns : tie.Need-returns
-returns c = rw (to_z-of_z c.before.ranges.n, c.match.keys1)
+returns : tie.Need-returns-in-1
+returns c = rw (to_z-of_z c.before.ranges.n, c.in_default.keys1)
 
-returns-2 : tie.Need-returns-2
-returns-2 c = rw (to_z-of_z c.before.ranges.x, c.match.keys2)
+returns-2 : tie.Need-returns-in-2
+returns-2 c = rw (to_z-of_z c.before.ranges.x, c.in_default.keys2)
 
-returns-3 : tie.Need-returns-3
+returns-3 : tie.Need-returns-in-3
 returns-3 c =
-    let at-match-keys3 : tie.At-match-keys3 = search in
+    let at-match-keys3 : tie.In-3 = search in
     let start : tie.Start = search in
     let f = start.fits in
-    rw (to_z-of_z (sfits_of c.wrapping_add.type-inv), c.wrapping_add.ensures, to_z-of_z f.x, to_z-of_z f.y, at-match-keys3.match.keys3)
+    rw (to_z-of_z (sfits_of c.wrapping_add.type-inv), c.wrapping_add.ensures, to_z-of_z f.x, to_z-of_z f.y, at-match-keys3.in_default.keys3)
 
-returns-4 : tie.Need-returns-4
+returns-4 : tie.Need-returns-in-4
 returns-4 c =
-    let at-match-keys4 : tie.At-match-keys4 = search in
+    let at-match-keys4 : tie.In-4 = search in
     let start : tie.Start = search in
     let f = start.fits in
-    rw (to_z-of_z (sfits_of c.wrapping-sub.type-inv), c.wrapping-sub.ensures, to_z-of_z f.x, to_z-of_z f.y, at-match-keys4.match.keys4)
+    rw (to_z-of_z (sfits_of c.wrapping_sub.type-inv), c.wrapping_sub.ensures, to_z-of_z f.x, to_z-of_z f.y, at-match-keys4.in_default.keys4)
 
-returns-5 : tie.Need-returns-5
-returns-5 c = let at-match-keys5 : tie.At-match-keys5 = search in let start : tie.Start = search in rw (to_z-of_z (sfits_of c.wrapping-neg.type-inv), c.wrapping-neg.ensures, to_z-of_z start.fits.x, at-match-keys5.match.keys5)
+returns-5 : tie.Need-returns-in-5
+returns-5 c = let at-match-keys5 : tie.In-5 = search in let start : tie.Start = search in rw (to_z-of_z (sfits_of c.wrapping_neg.type-inv), c.wrapping_neg.ensures, to_z-of_z start.fits.x, at-match-keys5.in_default.keys5)
 
-returns-6 : tie.Need-returns-6
+returns-6 : tie.Need-returns-in-6
 unfolding shift_right
 returns-6 c =
-    let at-match-keys6 : tie.At-match-keys6 = search in
+    let at-match-keys6 : tie.In-6 = search in
     let start : tie.Start = search in
     let f = start.fits in
-    rw (to_z-of_z (sfits_of c.shift-right.type-inv), c.shift-right.ensures, to_z-of_z f.x, to_z-of_z f.n, at-match-keys6.match.keys6)
+    rw (to_z-of_z (sfits_of c.shift_right.type-inv), c.shift_right.ensures, to_z-of_z f.x, to_z-of_z f.n, at-match-keys6.in_default.keys6)
 
-returns-7 : tie.Need-returns-7
-returns-7 c = let at-match-keys7 : tie.At-match-keys7 = search in let start : tie.Start = search in rw (to_z-of_z (sfits_of c.count_ones.type-inv), c.count_ones.ensures, to_z-of_z start.fits.x, at-match-keys7.match.keys7)
+returns-7 : tie.Need-returns-in-7
+returns-7 c = let at-match-keys7 : tie.In-7 = search in let start : tie.Start = search in rw (to_z-of_z (sfits_of c.count_ones.type-inv), c.count_ones.ensures, to_z-of_z start.fits.x, at-match-keys7.in_default.keys7)
 
-returns-8 : tie.Need-returns-8
+returns-8 : tie.Need-returns-in-8
 returns-8 c =
-    let at-match-keys8 : tie.At-match-keys8 = search in
+    let at-match-keys8 : tie.In-8 = search in
     let start : tie.Start = search in
     let f = start.fits in
-    rw (to_z-of_z (sfits_of c.bit_and.type-inv), c.bit_and.ensures, to_z-of_z f.x, to_z-of_z f.y, at-match-keys8.match.keys8)
+    rw (to_z-of_z (sfits_of c.bit_and.type-inv), c.bit_and.ensures, to_z-of_z f.x, to_z-of_z f.y, at-match-keys8.in_default.keys8)
 
-returns-9 : tie.Need-returns-9
+returns-9 : tie.Need-returns-in-9
 returns-9 c =
-    let at-match-keys9 : tie.At-match-keys9 = search in
+    let at-match-keys9 : tie.In-9 = search in
     let start : tie.Start = search in
     let f = start.fits in
-    rw (to_z-of_z (sfits_of c.bit_or.type-inv), c.bit_or.ensures, to_z-of_z f.x, to_z-of_z f.y, at-match-keys9.match.keys9)
+    rw (to_z-of_z (sfits_of c.bit_or.type-inv), c.bit_or.ensures, to_z-of_z f.x, to_z-of_z f.y, at-match-keys9.in_default.keys9)
 
-returns-10 : tie.Need-returns-10
+returns-10 : tie.Need-returns-in_default
 returns-10 c =
-    let at-match-rest : tie.At-match-rest = search in
+    let at-match-rest : tie.In_default = search in
     let s : tie.Start = search in
-    let last : s.args.operation ≡ 10 = omega (arith, apart_above 1 s.args.operation 9 at-match-rest.match.rest s.pre.0) in
+    let last : s.args.operation ≡ 10 = omega (arith, apart_above 1 s.args.operation 9 at-match-rest.in_default.rest s.requires.0) in
     rw (to_z-of_z (sfits_of c.bit_xor.type-inv), c.bit_xor.ensures, to_z-of_z s.fits.x, to_z-of_z s.fits.y, last)
 
-pub result-spec : {M : Type 1} → statement M
-result-spec =
+pub result_spec : {M : Type 1} → statement M
+result_spec =
     tie.close
     (tie.spec
     (λ c κs. tt)

@@ -9,20 +9,20 @@ use Rattle.instruction_effects.proofs.setting_or.Statement.{statement}
 use Rattle.instruction_effects.proofs.setting_or.Tie as tie
 
 -- the entry of the function
-abbrev start : tie.Then1 → tie.Start
+abbrev start : tie.Then-is_below → tie.Start
 start c = search
 
-below : (c : tie.Then1) → is_below (start c).args.s 1024 ≡ true
-below c = rw (to_z-of_z (start c).ranges.s) at (sym c.before.is_below.ensures ∙ c.if1.true)
+below : (c : tie.Then-is_below) → is_below (start c).args.s 1024 ≡ true
+below c = rw (to_z-of_z (start c).ranges.s) at (sym c.before.is_below.ensures ∙ c.if-is_below.true)
 
-cast-result : tie.Need-overflow-cast-result
+cast-result : tie.Need-overflow_cast-result
 cast-result c = below-cast _ 1024 (start c).ranges.s (below c) (omega arith)
 
-returns : tie.Need-returns
+returns : tie.Need-returns-then-is_below
 returns c = rw (to_z-of_z (start c).ranges.s, below c)
 
-returns-2 : tie.Need-returns-2
-returns-2 c = let at-start : tie.Start = search in rw (← to_z-of_z at-start.fits.s, ← c.before.is_below.ensures, c.if1.false)
+returns-2 : tie.Need-returns
+returns-2 c = let at-start : tie.Start = search in rw (← to_z-of_z at-start.fits.s, ← c.before.is_below.ensures, c.if-is_below.false)
 
-pub setting-or-spec : {M : Type 1} → statement M
-setting-or-spec = tie.close (tie.spec (λ c κs. tt) cast-result returns returns-2)
+pub setting_or_spec : {M : Type 1} → statement M
+setting_or_spec = tie.close (tie.spec (λ c κs. tt) cast-result returns returns-2)

@@ -15,41 +15,41 @@ use Rattle.intake.proofs.take_in.Tie as tie
 abbrev lent : tie.Start → Tables
 lent s =
     let a = s.args in
-    tables a.held.now a.timestamps.now a.order.now a.status.now a.withdrawn.now a.lengths.now a.programs.now a.reads.now a.writes.now a.sources.now a.seen.now a.targets.now a.written.now a.view.now a.versions.now a.cutoff.now a.kept.now
+    tables a.held-1.now a.timestamps-1.now a.order-1.now a.status.now a.withdrawn.now a.lengths-1.now a.programs-1.now a.reads.now a.writes.now a.sources.now a.seen.now a.targets.now a.written.now a.view.now a.versions-1.now a.cutoff.now a.kept.now
 
 -- ---- the places of the code, from each the one before
 
-abbrev entry : tie.After-fault → tie.Start
+abbrev entry : tie.After-fault-refusal → tie.Start
 entry c = search
 
-abbrev asked : tie.After-take-item → tie.Else1
+abbrev asked : tie.After-take_item → tie.Else-refusal-ne0
 asked c = search
 
 -- ---- needs
 
-fits : (c : tie.Else1) → let s = entry c.before in Formed s.args.n (lent s)
-fits c = faultless _ (lent (entry c.before)) c.before.fault.ensures c.if1.false
+fits : (c : tie.Else-refusal-ne0) → let s = entry c.before in Formed s.args.n (lent s)
+fits c = faultless _ (lent (entry c.before)) c.before.fault-refusal.ensures c.if-refusal-ne0.false
 
-returns : tie.Need-returns
+returns : tie.Need-returns-then-refusal-ne0
 unfolding take_in
 returns c =
     let s = entry c.before in
-    item-fault _ (lent s) (taking s.args.timestamp (code s.args.version s.args.program.now)) c.before.fault.ensures c.if1.true
+    item-fault _ (lent s) (taking s.args.timestamp (code s.args.version s.args.program.now)) c.before.fault-refusal.ensures c.if-refusal-ne0.true
 
-take-item-requires : tie.Need-take-item-requires
+take-item-requires : tie.Need-take_item-requires
 take-item-requires c κs =
-    let u : tie.Else1 = search in
+    let u : tie.Else-refusal-ne0 = search in
     record { capacity = (entry u.before).args.n; others = lent (entry u.before); formed = fits u }
 
-returns-2 : tie.Need-returns-2
+returns-2 : tie.Need-returns
 unfolding take_in
 returns-2 c =
-    let i : tie.After-take-item = search in
+    let i : tie.After-take_item = search in
     let u = asked i in
-    i.take-item.ensures.answered (lent (entry u.before)) (fits u)
+    i.take_item.ensures.answered (lent (entry u.before)) (fits u)
 
-pub take-in-spec : {M : Type 1} → statement M
-take-in-spec =
+pub take_in_spec : {M : Type 1} → statement M
+take_in_spec =
     tie.close
     (tie.spec
     (λ c κs. tt)
@@ -61,10 +61,10 @@ take-in-spec =
     (λ c. refl)
     returns
     take-item-requires
-    (λ c. omega (arith, (the tie.After-take-item (search)).take-item.kept))
-    (λ c. omega (arith, (the tie.After-take-item (search)).take-item.kept))
-    (λ c. omega (arith, (the tie.After-take-item (search)).take-item.kept))
-    (λ c. omega (arith, (the tie.After-take-item (search)).take-item.kept))
-    (λ c. omega (arith, (the tie.After-take-item (search)).take-item.kept))
-    (λ c. omega (arith, (the tie.After-take-item (search)).take-item.kept))
+    (λ c. omega (arith, (the tie.After-take_item (search)).take_item.kept))
+    (λ c. omega (arith, (the tie.After-take_item (search)).take_item.kept))
+    (λ c. omega (arith, (the tie.After-take_item (search)).take_item.kept))
+    (λ c. omega (arith, (the tie.After-take_item (search)).take_item.kept))
+    (λ c. omega (arith, (the tie.After-take_item (search)).take_item.kept))
+    (λ c. omega (arith, (the tie.After-take_item (search)).take_item.kept))
     returns-2)

@@ -14,41 +14,41 @@ use Rattle.intake.proofs.withdraw.Tie as tie
 abbrev lent : tie.Start → Tables
 lent s =
     let a = s.args in
-    tables a.held.now a.timestamps.now a.order.now a.status.now a.withdrawn.now a.lengths.now a.programs.now a.reads.now a.writes.now a.sources.now a.seen.now a.targets.now a.written.now a.view.now a.versions.now a.cutoff.now a.kept.now
+    tables a.held.now a.timestamps.now a.order.now a.status-1.now a.withdrawn-1.now a.lengths.now a.programs.now a.reads.now a.writes.now a.sources.now a.seen.now a.targets.now a.written.now a.view.now a.versions.now a.cutoff.now a.kept.now
 
 -- ---- the places of the code, from each the one before
 
-abbrev entry : tie.After-fault → tie.Start
+abbrev entry : tie.After-fault-refusal → tie.Start
 entry c = search
 
-abbrev asked : tie.After-withdraw-item → tie.Else1
+abbrev asked : tie.After-withdraw_item → tie.Else-refusal-ne0
 asked c = search
 
 -- ---- needs
 
-fits : (c : tie.Else1) → let s = entry c.before in Formed s.args.n (lent s)
-fits c = faultless _ (lent (entry c.before)) c.before.fault.ensures c.if1.false
+fits : (c : tie.Else-refusal-ne0) → let s = entry c.before in Formed s.args.n (lent s)
+fits c = faultless _ (lent (entry c.before)) c.before.fault-refusal.ensures c.if-refusal-ne0.false
 
-returns : tie.Need-returns
+returns : tie.Need-returns-then-refusal-ne0
 unfolding withdraw
 returns c =
     let s = entry c.before in
-    item-fault _ (lent s) (withdrawing s.args.timestamp) c.before.fault.ensures c.if1.true
+    item-fault _ (lent s) (withdrawing s.args.timestamp) c.before.fault-refusal.ensures c.if-refusal-ne0.true
 
-withdraw-item-requires : tie.Need-withdraw-item-requires
+withdraw-item-requires : tie.Need-withdraw_item-requires
 withdraw-item-requires c κs =
-    let u : tie.Else1 = search in
+    let u : tie.Else-refusal-ne0 = search in
     record { capacity = (entry u.before).args.n; others = lent (entry u.before); formed = fits u }
 
-returns-2 : tie.Need-returns-2
+returns-2 : tie.Need-returns
 unfolding withdraw
 returns-2 c =
-    let i : tie.After-withdraw-item = search in
+    let i : tie.After-withdraw_item = search in
     let u = asked i in
-    i.withdraw-item.ensures.answered (lent (entry u.before)) (fits u)
+    i.withdraw_item.ensures.answered (lent (entry u.before)) (fits u)
 
-pub withdraw-spec : {M : Type 1} → statement M
-withdraw-spec =
+pub withdraw_spec : {M : Type 1} → statement M
+withdraw_spec =
     tie.close
     (tie.spec
     (λ c κs. tt)
@@ -56,6 +56,6 @@ withdraw-spec =
     (λ c. refl)
     returns
     withdraw-item-requires
-    (λ c. omega (arith, (the tie.After-withdraw-item (search)).withdraw-item.kept))
-    (λ c. omega (arith, (the tie.After-withdraw-item (search)).withdraw-item.kept))
+    (λ c. omega (arith, (the tie.After-withdraw_item (search)).withdraw_item.kept))
+    (λ c. omega (arith, (the tie.After-withdraw_item (search)).withdraw_item.kept))
     returns-2)

@@ -10,28 +10,28 @@ use Rattle.general.proofs.Places.{the}
 use Rattle.interpreter_exports.proofs.copy_settings.Statement.{statement}
 use Rattle.interpreter_exports.proofs.copy_settings.Tie as tie
 
-abbrev invariant-loop : tie.invariant-loop
+abbrev invariant-loop : tie.invariant-loop-i
 invariant-loop count list lent₀ i₀ lent i = (i ≤ count) × (length lent ≡ length lent₀) × (lent ≡ paste lent₀ 0 list i)
 
-abbrev decreases-loop : tie.decreases-loop
+abbrev decreases-loop : tie.decreases-loop-i
 decreases-loop count list lent₀ i₀ lent i = count - i
 
-loop-again : tie.Need-loop-preserved invariant-loop decreases-loop
+loop-again : tie.Need-loop-i-preserved invariant-loop decreases-loop
 loop-again c =
-    let l = (the (tie.At-loop invariant-loop decreases-loop) (search)).loop in
-    (omega arith, simp length-set l.inv.1, copied_more _ _ _ l.inv.2 _ (omega arith) (omega arith))
+    let l = (the (tie.At-loop-i invariant-loop decreases-loop) (search)).loop-i in
+    (omega arith, simp length-set l.invariant.1, copied_more _ _ _ l.invariant.2 _ (omega arith) (omega arith))
 
 returns : tie.Need-returns invariant-loop decreases-loop
 returns c =
-    let at-loop : tie.At-loop invariant-loop decreases-loop = search in
+    let at-loop : tie.At-loop-i invariant-loop decreases-loop = search in
     let start : tie.Start invariant-loop decreases-loop = search in
     let a = start.args in
-    let l = at-loop.loop in
+    let l = at-loop.loop-i in
     let e : a.count ≡ l.i = omega arith in
-    rw e (copied_all a.list.now a.lent.now l.i l.inv.2 (omega arith))
+    rw e (copied_all a.list.now a.lent-1.now l.i l.invariant.2 (omega arith))
 
-pub copy-settings-spec : {M : Type 1} → statement M
-copy-settings-spec =
+pub copy_settings_spec : {M : Type 1} → statement M
+copy_settings_spec =
     tie.close
     (tie.spec
     invariant-loop
@@ -44,5 +44,5 @@ copy-settings-spec =
     (λ c. search rules)
     (λ c. search rules)
     loop-again
-    (λ c. let at-loop : tie.At-loop invariant-loop decreases-loop = search in at-loop.loop.inv.1)
+    (λ c. let at-loop : tie.At-loop-i invariant-loop decreases-loop = search in at-loop.loop-i.invariant.1)
     returns)

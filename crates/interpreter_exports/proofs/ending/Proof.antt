@@ -7,8 +7,8 @@ use lib.ListN.{get_or-eq_default}
 use Rattle.interpreter_exports.proofs.ending.Statement.{statement}
 use Rattle.interpreter_exports.proofs.ending.Tie as tie
 
-returns-5 : tie.Need-returns-5
+returns-5 : tie.Need-returns-in_default
 returns-5 c = (sym (get_or-eq_default (0 ∷ 0 ∷ 1 ∷ 2 ∷ []) 3 {n = c.before.args.state} (omega arith)), omega arith)
 
-pub ending-spec : {M : Type 1} → statement M
-ending-spec = tie.close (tie.spec (λ c. search rules) (λ c. search rules) (λ c. search rules) (λ c. search rules) returns-5)
+pub ending_spec : {M : Type 1} → statement M
+ending_spec = tie.close (tie.spec (λ c. search rules) (λ c. search rules) (λ c. search rules) (λ c. search rules) returns-5)

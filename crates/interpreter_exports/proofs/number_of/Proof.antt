@@ -5,14 +5,14 @@ use Rattle.interpreter_exports.proofs.Reports.{number-by-state}
 use Rattle.interpreter_exports.proofs.number_of.Statement.{statement}
 use Rattle.interpreter_exports.proofs.number_of.Tie as tie
 
-returns : tie.Need-returns
-returns c = let start : tie.Start = search in let e = c.before in number-by-state start.args.run _ e.ending.ensures.0 (eq-eqb _ 0 c.if1.true)
+returns : tie.Need-returns-then-end-eq0
+returns c = let start : tie.Start = search in let e = c.before in number-by-state start.args.run _ e.ending-end.ensures.0 (eq-eqb _ 0 c.if-end-eq0.true)
 
-returns-2 : tie.Need-returns-2
-returns-2 c = let at-else1 : tie.Else1 = search in let start : tie.Start = search in let e : tie.After-ending = search in number-by-state start.args.run _ e.ending.ensures.0 (ne_eqb _ 0 at-else1.if1.left)
+returns-2 : tie.Need-returns
+returns-2 c = let at-else1 : tie.Else-end-eq0 = search in let start : tie.Start = search in let e : tie.After-ending-end = search in number-by-state start.args.run _ e.ending-end.ensures.0 (ne_eqb _ 0 at-else1.if-end-eq0.false)
 
-pub number-of-spec : {M : Type 1} → statement M
-number-of-spec =
+pub number_of_spec : {M : Type 1} → statement M
+number_of_spec =
     tie.close
     (tie.spec
     (λ c. search rules)

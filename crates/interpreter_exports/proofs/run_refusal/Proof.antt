@@ -8,11 +8,11 @@ use Rattle.interpreter_exports.proofs.run_refusal.Tie as tie
 abbrev sized : tie.Start → Bool
 sized s = eqb s.args.sources 32 && eqb s.args.seen 32 && eqb s.args.targets 32 && eqb s.args.written 32
 
-returns : tie.Need-returns
-returns c = rw (not-true (sized (search)) c.if1.true)
+returns : tie.Need-returns-then-not-sources-seen
+returns c = rw (not-true (sized (search)) c.if-not-sources-seen.true)
 
-returns-2 : tie.Need-returns-2
-returns-2 c = let at-else1 : tie.Else1 = search in rw (not-false (sized (search)) at-else1.if1.left) c.tolbezun-program-refusal.ensures
+returns-2 : tie.Need-returns
+returns-2 c = let at-else1 : tie.Else-not-sources-seen = search in rw (not-false (sized (search)) at-else1.if-not-sources-seen.false) c.tolbezun_program_refusal.ensures
 
-pub run-refusal-spec : {M : Type 1} → statement M
-run-refusal-spec = tie.close (tie.spec returns (λ c κs. tt) returns-2)
+pub run_refusal_spec : {M : Type 1} → statement M
+run_refusal_spec = tie.close (tie.spec returns (λ c κs. tt) returns-2)

@@ -12,78 +12,78 @@ use Rattle.interpreter_exports.proofs.tolbezun_program_run.Tie as tie
 
 -- ---- milestones
 
-abbrev entry : tie.After-run-refusal → tie.Start
+abbrev entry : tie.After-run_refusal-refusal → tie.Start
 entry c = search
 
-abbrev passed : tie.After-given → tie.Else1
+abbrev passed : tie.After-given-1 → tie.Else-refusal-ne0
 passed c = search
 
-abbrev has-run : tie.After-copy-settings → tie.After-run-program
+abbrev has-run : tie.After-copy_settings → tie.After-run_program-run
 has-run c = search
 
-abbrev reads-copied : tie.After-copy-values → tie.After-copy-settings
+abbrev reads-copied : tie.After-copy_values → tie.After-copy_settings
 reads-copied c = search
 
-abbrev seen-copied : tie.After-copy-settings2 → tie.After-copy-values
+abbrev seen-copied : tie.After-copy_settings-2 → tie.After-copy_values
 seen-copied c = search
 
-abbrev targets-copied : tie.After-copy-values2 → tie.After-copy-settings2
+abbrev targets-copied : tie.After-copy_values-2 → tie.After-copy_settings-2
 targets-copied c = search
 
 -- the lent lists at entry
 abbrev lent : tie.Start → Lists
-lent s = lists s.args.sources.now s.args.seen.now s.args.targets.now s.args.written.now
+lent s = lists s.args.sources-1.now s.args.seen-1.now s.args.targets-1.now s.args.written-1.now
 
-returns : tie.Need-returns
+returns : tie.Need-returns-then-refusal-ne0
 returns c =
-    let t : tie.Then1 = search in
+    let t : tie.Then-refusal-ne0 = search in
     let s = entry t.before in
-    refused _ s.args.values.now (lent s) t.before.run-refusal.ensures t.if1.taken c.refused-number.ensures
+    refused _ s.args.values.now (lent s) t.before.run_refusal-refusal.ensures t.if-refusal-ne0.true c.refused_number.ensures
 
 -- what a run that is not refused has
-accepted : (c : tie.Else1) → Sized (lent (entry c.before)) × (length (entry c.before).args.program.now ≤ 256) × (all_well_formed (entry c.before).args.program.now ≡ true)
-accepted c = let s = entry c.before in runnable _ s.args.values.now (lent s) c.before.run-refusal.ensures c.if1.false
+accepted : (c : tie.Else-refusal-ne0) → Sized (lent (entry c.before)) × (length (entry c.before).args.program.now ≤ 256) × (all_well_formed (entry c.before).args.program.now ≡ true)
+accepted c = let s = entry c.before in runnable _ s.args.values.now (lent s) c.before.run_refusal-refusal.ensures c.if-refusal-ne0.false
 
-run-program-requires : tie.Need-run-program-requires
+run-program-requires : tie.Need-run_program-run-requires
 run-program-requires c κs = let h = accepted (passed c) in (h.1, h.2, search rules)
 
-copy-settings-requires : tie.Need-copy-settings-requires
-copy-settings-requires c κs = let r : tie.After-run-program = search in (r.run-program.ensures.reads, r.run-program.ensures.sized.sources, (accepted (passed (search))).0.sources)
+copy-settings-requires : tie.Need-copy_settings-requires
+copy-settings-requires c κs = let r : tie.After-run_program-run = search in (r.run_program-run.ensures.reads, r.run_program-run.ensures.sized.sources-1, (accepted (passed (search))).0.sources-1)
 
-copy-values-requires : tie.Need-copy-values-requires
+copy-values-requires : tie.Need-copy_values-requires
 copy-values-requires c κs =
     let r = has-run (search) in
-    (r.run-program.ensures.reads, r.run-program.ensures.sized.seen, (accepted (passed (search))).0.seen)
+    (r.run_program-run.ensures.reads, r.run_program-run.ensures.sized.seen-1, (accepted (passed (search))).0.seen-1)
 
-copy-settings-requires-2 : tie.Need-copy-settings-requires-2
+copy-settings-requires-2 : tie.Need-copy_settings-requires-2
 copy-settings-requires-2 c κs =
     let r = has-run (reads-copied (search)) in
-    (r.run-program.ensures.writes, r.run-program.ensures.sized.targets, (accepted (passed (search))).0.targets)
+    (r.run_program-run.ensures.writes, r.run_program-run.ensures.sized.targets-1, (accepted (passed (search))).0.targets-1)
 
-copy-values-requires-2 : tie.Need-copy-values-requires-2
+copy-values-requires-2 : tie.Need-copy_values-requires-2
 copy-values-requires-2 c κs =
     let r = has-run (reads-copied (seen-copied (search))) in
-    (r.run-program.ensures.writes, r.run-program.ensures.sized.written, (accepted (passed (search))).0.written)
+    (r.run_program-run.ensures.writes, r.run_program-run.ensures.sized.written-1, (accepted (passed (search))).0.written-1)
 
-number-of-requires : tie.Need-number-of-requires
+number-of-requires : tie.Need-number_of-requires
 number-of-requires c κs =
-    let h = (has-run (reads-copied (seen-copied (targets-copied (search))))).run-program.ensures in
+    let h = (has-run (reads-copied (seen-copied (targets-copied (search))))).run_program-run.ensures in
     (h.reads, h.writes, h.placed)
 
-returns-2 : tie.Need-returns-2
+returns-2 : tie.Need-returns
 returns-2 c =
-    let d : tie.After-copy-values2 = search in
+    let d : tie.After-copy_values-2 = search in
     let t = targets-copied d in
     let v = seen-copied t in
     let q = reads-copied v in
     let r = has-run q in
     let e = passed (search) in
     let s = entry e.before in
-    ran _ s.args.values.now (lent s) e.before.run-refusal.ensures e.if1.left r.run-program.ensures
-    q.copy-settings.ensures v.copy-values.ensures t.copy-settings2.ensures d.copy-values2.ensures c.number_of_lem.ensures
+    ran _ s.args.values.now (lent s) e.before.run_refusal-refusal.ensures e.if-refusal-ne0.false r.run_program-run.ensures
+    q.copy_settings.ensures v.copy_values.ensures t.copy_settings-2.ensures d.copy_values-2.ensures c.number_of_lem.ensures
 
-pub tolbezun-program-run-spec : {M : Type 1} → statement M
-tolbezun-program-run-spec =
+pub tolbezun_program_run_spec : {M : Type 1} → statement M
+tolbezun_program_run_spec =
     tie.close
     (tie.spec
     (λ c κs. tt)

@@ -9,37 +9,37 @@ use Rattle.item_tests.proofs.Steps.{lengths_differ, bytes-end, byte-differs, byt
 use Rattle.item_tests.proofs.same_bytes.Statement.{statement}
 use Rattle.item_tests.proofs.same_bytes.Tie as tie
 
-abbrev invariant-loop : tie.invariant-loop
+abbrev invariant-loop : tie.invariant-loop-i
 invariant-loop a b i₀ i = (i ≤ length a) × (same_bytes (drop i a) (drop i b) ≡ same_bytes a b)
 
-abbrev decreases-loop : tie.decreases-loop
+abbrev decreases-loop : tie.decreases-loop-i
 decreases-loop a b i₀ i = length a - i
 
-returns-2 : tie.Need-returns-2 invariant-loop decreases-loop
+returns-2 : tie.Need-returns-then-a-i invariant-loop decreases-loop
 returns-2 c =
-    let at-loop : tie.At-loop invariant-loop decreases-loop = search in
-    let l = at-loop.loop in
-    sym (byte-differs _ _ l.i (omega arith) (omega arith) c.if2.true) ∙ l.inv.1
+    let at-loop : tie.At-loop-i invariant-loop decreases-loop = search in
+    let l = at-loop.loop-i in
+    sym (byte-differs _ _ l.i (omega arith) (omega arith) c.if-a-i.true) ∙ l.invariant.1
 
-loop-again : tie.Need-loop-preserved invariant-loop decreases-loop
+loop-again : tie.Need-loop-i-preserved invariant-loop decreases-loop
 loop-again c =
-    let at-loop : tie.At-loop invariant-loop decreases-loop = search in
-    let l = at-loop.loop in
-    (omega arith, byte-agrees _ _ l.i (omega arith) (omega arith) c.if2.false ∙ l.inv.1)
+    let at-loop : tie.At-loop-i invariant-loop decreases-loop = search in
+    let l = at-loop.loop-i in
+    (omega arith, byte-agrees _ _ l.i (omega arith) (omega arith) c.if-a-i.false ∙ l.invariant.1)
 
-returns-3 : tie.Need-returns-3 invariant-loop decreases-loop
+returns-3 : tie.Need-returns invariant-loop decreases-loop
 returns-3 c =
-    let at-loop : tie.At-loop invariant-loop decreases-loop = search in
-    let l = at-loop.loop in
-    sym (bytes-end _ _ l.i (omega arith) (omega arith)) ∙ l.inv.1
+    let at-loop : tie.At-loop-i invariant-loop decreases-loop = search in
+    let l = at-loop.loop-i in
+    sym (bytes-end _ _ l.i (omega arith) (omega arith)) ∙ l.invariant.1
 
-pub same-bytes-spec : {M : Type 1} → statement M
-same-bytes-spec =
+pub same_bytes_spec : {M : Type 1} → statement M
+same_bytes_spec =
     tie.close
     (tie.spec
     invariant-loop
     decreases-loop
-    (λ c. sym (lengths_differ c.before.args.a.now c.before.args.b.now c.if1.true))
+    (λ c. sym (lengths_differ c.before.args.a.now c.before.args.b.now c.if-a-b.true))
     (λ c. (omega arith, refl))
     (λ c. search rules)
     (λ c. search rules)

@@ -14,19 +14,19 @@ use Rattle.lines.proofs.put_fault.Tie as tie
 
 returns : tie.Need-returns
 returns c =
-    let p = (the tie.After-put (search)).put.ensures in
-    let q = (the tie.After-put-number (search)).put-number.ensures in
-    let p2 = (the tie.After-put2 (search)).put2.ensures in
-    let q2 = (the tie.After-put-number2 (search)).put-number2.ensures in
-    let p3 = (the tie.After-put3 (search)).put3.ensures in
+    let p = (the tie.After-put-end (search)).put-end.ensures in
+    let q = (the tie.After-put_number-end (search)).put_number-end.ensures in
+    let p2 = (the tie.After-put-end-2 (search)).put-end-2.ensures in
+    let q2 = (the tie.After-put_number-end-2 (search)).put_number-end-2.ensures in
+    let p3 = (the tie.After-put (search)).put.ensures in
     let s : tie.Start = search in
-    let room : s.args.at ≤ length s.args.text.now = omega (arith, s.pre) in
+    let room : s.args.at ≤ length s.args.text-1.now = omega (arith, s.requires) in
     let line = put_then (put_then (put_then (put_then p room q.0) room p2) room q2.0) room p3 in
     let same = append_assoc (ascii "turn " ++ decimal s.args.timestamp) (ascii " faulted ") (decimal s.args.place) in
     (put_as line (ap (λ (l : List ℕ). l ++ ascii "\n") same), omega (arith, p.ends, q.1, p2.ends, q2.1, p3.ends))
 
-pub put-fault-spec : {M : Type 1} → statement M
-put-fault-spec =
+pub put_fault_spec : {M : Type 1} → statement M
+put_fault_spec =
     tie.close
     (tie.spec
     (λ c. search rules)

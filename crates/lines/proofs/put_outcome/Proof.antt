@@ -7,30 +7,30 @@ use Rattle.general.proofs.Places.{the}
 use Rattle.lines.proofs.put_outcome.Statement.{statement}
 use Rattle.lines.proofs.put_outcome.Tie as tie
 
-returns : tie.Need-returns
+returns : tie.Need-returns-then-answer-eq255
 returns c =
     let p = (the tie.After-put (search)).put.ensures in
-    (put_as p (outcome-held (the tie.Start (search)).args.kind (the tie.Then1 (search)).if1.taken), omega (arith, p.ends))
+    (put_as p (outcome-held (the tie.Start (search)).args.kind (the tie.Then-answer-eq255 (search)).if-answer-eq255.true), omega (arith, p.ends))
 
-returns-2 : tie.Need-returns-2
+returns-2 : tie.Need-returns-then-answer-ne0
 returns-2 c =
-    let p = (the tie.After-put2 (search)).put2.ensures in
-    let q = (the tie.After-put-number (search)).put-number.ensures in
+    let p = (the tie.After-put-end (search)).put-end.ensures in
+    let q = (the tie.After-put_number (search)).put_number.ensures in
     let s : tie.Start = search in
-    (put_as (put_then p (omega (arith, s.pre)) q.0) (outcome-refused (the tie.Start (search)).args.kind (the tie.Else1 (search)).if1.left (the tie.Then2 (search)).if2.taken), omega (arith, p.ends, q.1))
+    (put_as (put_then p (omega (arith, s.requires)) q.0) (outcome-refused (the tie.Start (search)).args.kind (the tie.Else-answer-eq255 (search)).if-answer-eq255.false (the tie.Then-answer-ne0 (search)).if-answer-ne0.true), omega (arith, p.ends, q.1))
 
-returns-3 : tie.Need-returns-3
+returns-3 : tie.Need-returns-then-kind-eq0
 returns-3 c =
-    let p = (the tie.After-put3 (search)).put3.ensures in
-    (put_as p (outcome-taken (the tie.Start (search)).args.kind (the tie.Else1 (search)).if1.left (the tie.Else2 (search)).if2.left (the tie.Then3 (search)).if3.taken), omega (arith, p.ends))
+    let p = (the tie.After-put-then-kind-eq0 (search)).put-then-kind-eq0.ensures in
+    (put_as p (outcome-taken (the tie.Start (search)).args.kind (the tie.Else-answer-eq255 (search)).if-answer-eq255.false (the tie.Else-answer-ne0 (search)).if-answer-ne0.false (the tie.Then-kind-eq0 (search)).if-kind-eq0.true), omega (arith, p.ends))
 
-returns-4 : tie.Need-returns-4
+returns-4 : tie.Need-returns
 returns-4 c =
-    let p = (the tie.After-put4 (search)).put4.ensures in
-    (put_as p (outcome-withdrawn (the tie.Start (search)).args.kind (the tie.Else1 (search)).if1.left (the tie.Else2 (search)).if2.left (the tie.Else3 (search)).if3.left), omega (arith, p.ends))
+    let p = (the tie.After-put-2 (search)).put-2.ensures in
+    (put_as p (outcome-withdrawn (the tie.Start (search)).args.kind (the tie.Else-answer-eq255 (search)).if-answer-eq255.false (the tie.Else-answer-ne0 (search)).if-answer-ne0.false (the tie.Else-kind-eq0 (search)).if-kind-eq0.false), omega (arith, p.ends))
 
-pub put-outcome-spec : {M : Type 1} → statement M
-put-outcome-spec =
+pub put_outcome_spec : {M : Type 1} → statement M
+put_outcome_spec =
     tie.close
     (tie.spec
     (λ c. search rules)

@@ -10,15 +10,15 @@ use Rattle.lines.proofs.put_refusal.Tie as tie
 
 returns : tie.Need-returns
 returns c =
-    let p = (the tie.After-put (search)).put.ensures in
-    let q = (the tie.After-put-number (search)).put-number.ensures in
-    let p2 = (the tie.After-put2 (search)).put2.ensures in
+    let p = (the tie.After-put-end (search)).put-end.ensures in
+    let q = (the tie.After-put_number-end (search)).put_number-end.ensures in
+    let p2 = (the tie.After-put (search)).put.ensures in
     let s : tie.Start = search in
-    let room : s.args.at ≤ length s.args.text.now = omega (arith, s.pre) in
+    let room : s.args.at ≤ length s.args.text-1.now = omega (arith, s.requires) in
     (put_then (put_then p room q.0) room p2, omega (arith, p.ends, q.1, p2.ends))
 
-pub put-refusal-spec : {M : Type 1} → statement M
-put-refusal-spec =
+pub put_refusal_spec : {M : Type 1} → statement M
+put_refusal_spec =
     tie.close
     (tie.spec
     (λ c. search rules)

@@ -9,26 +9,26 @@ use Rattle.general.proofs.Places.{the}
 use Rattle.lines.proofs.put_setting.Statement.{statement}
 use Rattle.lines.proofs.put_setting.Tie as tie
 
-returns : tie.Need-returns
+returns : tie.Need-returns-then-value-start
 returns c =
     let s : tie.Start = search in
-    (put_as (put-nothing s.args.at s.args.text.now) (setting-none s.args.setting s.args.start s.fits.value s.fits.start c.if1.true), omega arith)
+    (put_as (put-nothing s.args.at s.args.text-1.now) (setting-none s.args.setting s.args.start s.fits.value s.fits.start c.if-value-start.true), omega arith)
 
-returns-2 : tie.Need-returns-2
+returns-2 : tie.Need-returns
 returns-2 c =
-    let p = (the tie.After-put (search)).put.ensures in
-    let q = (the tie.After-put-number (search)).put-number.ensures in
-    let p2 = (the tie.After-put2 (search)).put2.ensures in
-    let v = (the tie.After-put-signed (search)).put-signed.ensures in
-    let p3 = (the tie.After-put3 (search)).put3.ensures in
-    let t : tie.Else1 = search in
+    let p = (the tie.After-put-end (search)).put-end.ensures in
+    let q = (the tie.After-put_number-end (search)).put_number-end.ensures in
+    let p2 = (the tie.After-put-end-2 (search)).put-end-2.ensures in
+    let v = (the tie.After-put_signed-end (search)).put_signed-end.ensures in
+    let p3 = (the tie.After-put (search)).put.ensures in
+    let t : tie.Else-value-start = search in
     let s : tie.Start = search in
-    let room : s.args.at ≤ length s.args.text.now = omega (arith, s.pre) in
-    let e = setting-some s.args.setting s.args.start s.fits.value t.if1.left in
+    let room : s.args.at ≤ length s.args.text-1.now = omega (arith, s.requires) in
+    let e = setting-some s.args.setting s.args.start s.fits.value t.if-value-start.false in
     (put_as (put_then (put_then (put_then (put_then p room q.0) room p2) room v.0) room p3) e, omega (arith, p.ends, q.1, p2.ends, v.1, p3.ends))
 
-pub put-setting-spec : {M : Type 1} → statement M
-put-setting-spec =
+pub put_setting_spec : {M : Type 1} → statement M
+put_setting_spec =
     tie.close
     (tie.spec
     returns

@@ -10,16 +10,16 @@ use Rattle.lines.proofs.put_turn_of.Tie as tie
 
 returns : tie.Need-returns
 returns c =
-    let p = (the tie.After-put (search)).put.ensures in
-    let q = (the tie.After-put-number (search)).put-number.ensures in
-    let p2 = (the tie.After-put2 (search)).put2.ensures in
-    let p3 = (the tie.After-put3 (search)).put3.ensures in
+    let p = (the tie.After-put-end (search)).put-end.ensures in
+    let q = (the tie.After-put_number-end (search)).put_number-end.ensures in
+    let p2 = (the tie.After-put-end-2 (search)).put-end-2.ensures in
+    let p3 = (the tie.After-put (search)).put.ensures in
     let s : tie.Start = search in
-    let room : s.args.at ≤ length s.args.text.now = omega (arith, s.pre.1) in
-    (put_then (put_then (put_then p room q.0) room p2) room p3, omega (arith, p.ends, q.1, p2.ends, p3.ends, s.pre.0))
+    let room : s.args.at ≤ length s.args.text-1.now = omega (arith, s.requires.1) in
+    (put_then (put_then (put_then p room q.0) room p2) room p3, omega (arith, p.ends, q.1, p2.ends, p3.ends, s.requires.0))
 
-pub put-turn-of-spec : {M : Type 1} → statement M
-put-turn-of-spec =
+pub put_turn_of_spec : {M : Type 1} → statement M
+put_turn_of_spec =
     tie.close
     (tie.spec
     (λ c. search rules)

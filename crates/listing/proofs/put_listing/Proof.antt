@@ -10,74 +10,74 @@ use Rattle.listing.proofs.put_listing.Tie as tie
 abbrev lent : tie.Start → Tables
 lent s =
     let a = s.args in
-    tables a.held.now a.timestamps.now a.order.now a.status.now a.withdrawn.now a.lengths.now a.programs.now a.reads.now a.writes.now a.sources.now a.seen.now a.targets.now a.written.now a.view.now a.versions.now a.cutoff.now a.kept.now
+    tables a.held-1.now a.timestamps-1.now a.order-1.now a.status-1.now a.withdrawn-1.now a.lengths-1.now a.programs-1.now a.reads-1.now a.writes-1.now a.sources-1.now a.seen-1.now a.targets-1.now a.written-1.now a.view-1.now a.versions-1.now a.cutoff-1.now a.kept-1.now
 
 -- ---- the places of the code, from each the one before
 
-abbrev begun : tie.After-take-in-anew-arg → tie.Start
+abbrev begun : tie.After-take_in_anew-arg-1 → tie.Start
 begun c = search
 
-abbrev asked : tie.After-take-in-anew → tie.After-take-in-anew-arg
+abbrev asked : tie.After-take_in_anew-answer → tie.After-take_in_anew-arg-1
 asked c = search
 
 -- the entry, from the first call
-abbrev entry : tie.After-take-in-anew → tie.Start
+abbrev entry : tie.After-take_in_anew-answer → tie.Start
 entry c = begun (asked c)
 
-abbrev called : tie.After-sources → tie.After-take-in-anew
+abbrev called : tie.After-sources-1 → tie.After-take_in_anew-answer
 called c = search
 
-abbrev given_back : tie.After-answers → tie.After-sources
+abbrev given_back : tie.After-answers-1 → tie.After-sources-1
 given_back c = search
 
 -- the first call, from where all that it was lent is given back
-abbrev taken : tie.After-answers → tie.After-take-in-anew
+abbrev taken : tie.After-answers-1 → tie.After-take_in_anew-answer
 taken c = called (given_back c)
 
-abbrev answered : tie.After-put-reply → tie.After-answers
+abbrev answered : tie.After-put_reply → tie.After-answers-1
 answered c = search
 
 -- ---- needs
 
-put-reply-requires : tie.Need-put-reply-requires
+put-reply-requires : tie.Need-put_reply-requires
 put-reply-requires c κs =
-    let l : tie.After-answers = search in
+    let l : tie.After-answers-1 = search in
     let t = taken l in
     let s = entry t in
-    (package-answered (lent s) s.pre.0 s.args.bytes.now s.args.answers.now t.take-in-anew.ensures s.pre.1.0, (omega (arith, t.take-in-anew.kept, s.pre.1.0), s.pre.1.1))
+    (package-answered (lent s) s.requires.kept_value s.args.bytes.now s.args.answers-1.now t.take_in_anew-answer.ensures s.requires.answers_len.0, (omega (arith, t.take_in_anew-answer.kept-1, s.requires.answers_len.0), s.requires.answers_len.1))
 
 returns : tie.Need-returns
 returns c =
-    let r : tie.After-put-reply = search in
-    let p = r.put-reply in
+    let r : tie.After-put_reply = search in
+    let p = r.put_reply in
     let t = taken (answered r) in
     let s = entry t in
-    let l = listed (lent s) s.pre.0 s.args.bytes.now s.args.answers.now t.take-in-anew.ensures p.ensures.0 in
-    (l, prefix_len_of_le _ _ (omega (arith, p.ensures.1, p.kept, s.pre.1.1)))
+    let l = listed (lent s) s.requires.kept_value s.args.bytes.now s.args.answers-1.now t.take_in_anew-answer.ensures p.ensures.fact in
+    (l, prefix_len_of_le _ _ (omega (arith, p.ensures.upper_bound, p.kept-1, s.requires.answers_len.1)))
 
-pub put-listing-spec : {M : Type 1} → statement M
-put-listing-spec =
+pub put_listing_spec : {M : Type 1} → statement M
+put_listing_spec =
     tie.close
     (tie.spec
     (λ c κs. tt)
     put-reply-requires
-    (λ c. omega (arith, (taken (answered (search))).take-in-anew.auto))
-    (λ c. omega (arith, (taken (answered (search))).take-in-anew.auto))
-    (λ c. omega (arith, (taken (answered (search))).take-in-anew.auto))
-    (λ c. omega (arith, (taken (answered (search))).take-in-anew.auto, (the tie.After-put-reply (search)).put-reply.kept))
-    (λ c. omega (arith, (taken (answered (search))).take-in-anew.auto))
-    (λ c. omega (arith, (taken (answered (search))).take-in-anew.auto))
-    (λ c. omega (arith, (taken (answered (search))).take-in-anew.auto))
-    (λ c. omega (arith, (taken (answered (search))).take-in-anew.auto, (the tie.After-put-reply (search)).put-reply.kept))
-    (λ c. omega (arith, (taken (answered (search))).take-in-anew.auto, (the tie.After-put-reply (search)).put-reply.kept))
-    (λ c. omega (arith, (taken (answered (search))).take-in-anew.auto, (the tie.After-put-reply (search)).put-reply.kept))
-    (λ c. omega (arith, (taken (answered (search))).take-in-anew.auto, (the tie.After-put-reply (search)).put-reply.kept))
-    (λ c. omega (arith, (taken (answered (search))).take-in-anew.auto, (the tie.After-put-reply (search)).put-reply.kept))
-    (λ c. omega (arith, (taken (answered (search))).take-in-anew.auto, (the tie.After-put-reply (search)).put-reply.kept))
-    (λ c. omega (arith, (taken (answered (search))).take-in-anew.auto, (the tie.After-put-reply (search)).put-reply.kept))
-    (λ c. omega (arith, (taken (answered (search))).take-in-anew.auto))
-    (λ c. omega (arith, (taken (answered (search))).take-in-anew.auto))
-    (λ c. omega (arith, (taken (answered (search))).take-in-anew.auto))
-    (λ c. omega (arith, (taken (answered (search))).take-in-anew.auto))
-    (λ c. omega (arith, (the tie.After-put-reply (search)).put-reply.kept))
+    (λ c. omega (arith, (taken (answered (search))).take_in_anew-answer.auto))
+    (λ c. omega (arith, (taken (answered (search))).take_in_anew-answer.auto))
+    (λ c. omega (arith, (taken (answered (search))).take_in_anew-answer.auto))
+    (λ c. omega (arith, (taken (answered (search))).take_in_anew-answer.auto, (the tie.After-put_reply (search)).put_reply.kept-1))
+    (λ c. omega (arith, (taken (answered (search))).take_in_anew-answer.auto))
+    (λ c. omega (arith, (taken (answered (search))).take_in_anew-answer.auto))
+    (λ c. omega (arith, (taken (answered (search))).take_in_anew-answer.auto))
+    (λ c. omega (arith, (taken (answered (search))).take_in_anew-answer.auto, (the tie.After-put_reply (search)).put_reply.kept-1))
+    (λ c. omega (arith, (taken (answered (search))).take_in_anew-answer.auto, (the tie.After-put_reply (search)).put_reply.kept-1))
+    (λ c. omega (arith, (taken (answered (search))).take_in_anew-answer.auto, (the tie.After-put_reply (search)).put_reply.kept-1))
+    (λ c. omega (arith, (taken (answered (search))).take_in_anew-answer.auto, (the tie.After-put_reply (search)).put_reply.kept-1))
+    (λ c. omega (arith, (taken (answered (search))).take_in_anew-answer.auto, (the tie.After-put_reply (search)).put_reply.kept-1))
+    (λ c. omega (arith, (taken (answered (search))).take_in_anew-answer.auto, (the tie.After-put_reply (search)).put_reply.kept-1))
+    (λ c. omega (arith, (taken (answered (search))).take_in_anew-answer.auto, (the tie.After-put_reply (search)).put_reply.kept-1))
+    (λ c. omega (arith, (taken (answered (search))).take_in_anew-answer.auto))
+    (λ c. omega (arith, (taken (answered (search))).take_in_anew-answer.auto))
+    (λ c. omega (arith, (taken (answered (search))).take_in_anew-answer.auto))
+    (λ c. omega (arith, (taken (answered (search))).take_in_anew-answer.auto))
+    (λ c. omega (arith, (the tie.After-put_reply (search)).put_reply.kept-1))
     returns)

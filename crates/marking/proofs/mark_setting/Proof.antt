@@ -10,51 +10,51 @@ use Rattle.general.proofs.Places.{the}
 use Rattle.marking.proofs.mark_setting.Statement.{statement}
 use Rattle.marking.proofs.mark_setting.Tie as tie
 
-abbrev invariant-loop : tie.invariant-loop
+abbrev invariant-loop : tie.invariant-loop-p
 invariant-loop s from to order status₀ reads sources writes targets p₀ end₀ status p end =
     Walked (columns order reads sources writes targets) s from to status₀ status p end
 
-abbrev decreases-loop : tie.decreases-loop
+abbrev decreases-loop : tie.decreases-loop-p
 decreases-loop s from to order status₀ reads sources writes targets p₀ end₀ status p end = end - p
 
 -- the entry of the function
-abbrev start : tie.In-loop invariant-loop decreases-loop → tie.Start invariant-loop decreases-loop
+abbrev start : tie.In-loop-p invariant-loop decreases-loop → tie.Start invariant-loop decreases-loop
 start c = search
 
-mark-place-requires : tie.Need-mark-place-requires invariant-loop decreases-loop
+mark-place-requires : tie.Need-mark_place-writer-requires invariant-loop decreases-loop
 mark-place-requires c κs =
-    let t : tie.In-loop invariant-loop decreases-loop = search in
-    let w = (start t).pre.2 in
-    let l = t.before.loop in
-    (omega (arith, l.inv.long, w.below l.p), reads-listed w l.p, writes-listed w l.p)
+    let t : tie.In-loop-p invariant-loop decreases-loop = search in
+    let w = (start t).requires.2 in
+    let l = t.before.loop-p in
+    (omega (arith, l.invariant.long, w.below l.p), reads-listed w l.p, writes-listed w l.p)
 
-loop-again : tie.Need-loop-preserved invariant-loop decreases-loop
+loop-again : tie.Need-loop-p-preserved-then-writer invariant-loop decreases-loop
 loop-again c =
-    let at-mark-place : tie.After-mark-place invariant-loop decreases-loop = search in
-    let t : tie.In-loop invariant-loop decreases-loop = search in
-    walked-last t.before.loop.inv t.loop-test.taken at-mark-place.mark-place.ensures c.if1.true
+    let at-mark-place : tie.After-mark_place-writer invariant-loop decreases-loop = search in
+    let t : tie.In-loop-p invariant-loop decreases-loop = search in
+    walked-last t.before.loop-p.invariant t.loop-p-test.true at-mark-place.mark_place-writer.ensures c.if-writer.true
 
-loop-again-2 : tie.Need-loop-preserved-2 invariant-loop decreases-loop
+loop-again-2 : tie.Need-loop-p-preserved invariant-loop decreases-loop
 loop-again-2 c =
-    let at-mark-place : tie.After-mark-place invariant-loop decreases-loop = search in
-    let t : tie.In-loop invariant-loop decreases-loop = search in
-    walked_next t.before.loop.inv t.loop-test.taken at-mark-place.mark-place.ensures c.if1.false
+    let at-mark-place : tie.After-mark_place-writer invariant-loop decreases-loop = search in
+    let t : tie.In-loop-p invariant-loop decreases-loop = search in
+    walked_next t.before.loop-p.invariant t.loop-p-test.true at-mark-place.mark_place-writer.ensures c.if-writer.false
 
-pub mark-setting-spec : {M : Type 1} → statement M
-mark-setting-spec =
+pub mark_setting_spec : {M : Type 1} → statement M
+mark_setting_spec =
     tie.close
     (tie.spec
     invariant-loop
     decreases-loop
     (λ c. record { within = omega arith; below = omega arith; long = refl; marks = refl; ended = refl })
     (λ c. search rules)
-    (λ c. omega (arith, (start (search)).pre.1, (the (tie.At-loop invariant-loop decreases-loop) (search)).loop.inv.below))
-    (λ c. omega (arith, c.shared-slice-known6.given (the (tie.At-loop invariant-loop decreases-loop) (search)).loop.p))
+    (λ c. omega (arith, (start (search)).requires.1, (the (tie.At-loop-p invariant-loop decreases-loop) (search)).loop-p.invariant.below))
+    (λ c. omega (arith, c.shared_slice_known-in-loop-p-1.given (the (tie.At-loop-p invariant-loop decreases-loop) (search)).loop-p.p))
     mark-place-requires
     (λ c. search rules)
     (λ c. search rules)
     loop-again
     (λ c. search rules)
     loop-again-2
-    (λ c. let at-loop : tie.At-loop invariant-loop decreases-loop = search in at-loop.loop.inv.long)
-    (λ c. let at-loop : tie.At-loop invariant-loop decreases-loop = search in walked_end at-loop.loop.inv c.loop-test.false))
+    (λ c. let at-loop : tie.At-loop-p invariant-loop decreases-loop = search in at-loop.loop-p.invariant.long)
+    (λ c. let at-loop : tie.At-loop-p invariant-loop decreases-loop = search in walked_end at-loop.loop-p.invariant c.loop-p-test.false))

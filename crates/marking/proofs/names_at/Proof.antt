@@ -7,21 +7,21 @@ use Rattle.marking.proofs.Steps.{lent-slots}
 use Rattle.marking.proofs.names_at.Statement.{statement}
 use Rattle.marking.proofs.names_at.Tie as tie
 
-returns : tie.Need-returns
+returns : tie.Need-returns-then-s-eq0
 returns c =
     let start : tie.Start = search in
     let a = start.args in
-    c.names-setting.ensures ∙ ap (holds a.s) (lent-list a.place a.counts.now a.settings.now)
+    c.names_setting.ensures ∙ ap (holds a.s) (lent-list a.place a.counts.now a.settings.now)
 
-returns-2 : tie.Need-returns-2
+returns-2 : tie.Need-returns
 returns-2 c =
-    let at-else1 : tie.Else1 = search in
+    let at-else1 : tie.Else-s-eq0 = search in
     let start : tie.Start = search in
     let a = start.args in
-    c.names-setting2.ensures ∙ lent-slots a.s a.place a.counts.now a.settings.now at-else1.if1.left start.pre
+    c.names_setting-2.ensures ∙ lent-slots a.s a.place a.counts.now a.settings.now at-else1.if-s-eq0.false start.requires
 
-pub names-at-spec : {M : Type 1} → statement M
-names-at-spec =
+pub names_at_spec : {M : Type 1} → statement M
+names_at_spec =
     tie.close
     (tie.spec
     (λ c. search rules)

@@ -9,11 +9,11 @@ use Rattle.package_entries.proofs.put_entry.Tie as tie
 returns : tie.Need-returns
 returns c =
     let p : tie.After-put = search in
-    let t : tie.After-put-little-endian = search in
-    put_then t.put-little-endian.ensures (omega (arith, (the tie.Start (search)).pre)) p.put.ensures
+    let t : tie.After-put_little_endian-end = search in
+    put_then t.put_little_endian-end.ensures (omega (arith, (the tie.Start (search)).requires)) p.put.ensures
 
-pub put-entry-spec : {M : Type 1} → statement M
-put-entry-spec =
+pub put_entry_spec : {M : Type 1} → statement M
+put_entry_spec =
     tie.close
     (tie.spec
     (λ c κs. search rules)

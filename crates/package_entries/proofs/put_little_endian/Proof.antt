@@ -7,14 +7,14 @@ use Rattle.general.proofs.Places.{the}
 use Rattle.package_entries.proofs.put_little_endian.Statement.{statement}
 use Rattle.package_entries.proofs.put_little_endian.Tie as tie
 
-abbrev invariant-loop : tie.invariant-loop
+abbrev invariant-loop : tie.invariant-loop-k
 invariant-loop number size bytes₀ at rest₀ k₀ bytes rest k = Written number size at bytes₀ bytes rest k
 
-abbrev decreases-loop : tie.decreases-loop
+abbrev decreases-loop : tie.decreases-loop-k
 decreases-loop number size bytes₀ at rest₀ k₀ bytes rest k = size - k
 
-pub put-little-endian-spec : {M : Type 1} → statement M
-put-little-endian-spec =
+pub put_little_endian_spec : {M : Type 1} → statement M
+put_little_endian_spec =
     tie.close
     (tie.spec
     invariant-loop
@@ -22,10 +22,10 @@ put-little-endian-spec =
     (λ c. written_none _ _ _ _)
     (λ c. search rules)
     (λ c. search rules)
-    (λ c. omega (arith, c.loop-test.true, c.before.loop.invariant.same, (the (tie.Start invariant-loop decreases-loop) (search)).pre))
+    (λ c. omega (arith, c.loop-k-test.true, c.before.loop-k.invariant.same, (the (tie.Start invariant-loop decreases-loop) (search)).requires))
     (λ c. search rules)
     (λ c. search rules)
-    (λ c. let start : tie.Start invariant-loop decreases-loop = search in written_next c.before.loop.invariant c.loop-test.true start.pre)
+    (λ c. let start : tie.Start invariant-loop decreases-loop = search in written_next c.before.loop-k.invariant c.loop-k-test.true start.requires)
     (λ c. search rules)
-    (λ c. let at-loop : tie.At-loop invariant-loop decreases-loop = search in at-loop.loop.inv.same)
-    (λ c. let at-loop : tie.At-loop invariant-loop decreases-loop = search in written_all at-loop.loop.inv c.loop-test.false))
+    (λ c. let at-loop : tie.At-loop-k invariant-loop decreases-loop = search in at-loop.loop-k.invariant.same)
+    (λ c. let at-loop : tie.At-loop-k invariant-loop decreases-loop = search in written_all at-loop.loop-k.invariant c.loop-k-test.false))

@@ -16,61 +16,61 @@ use Rattle.package_intake.proofs.take_in_package.Tie as tie
 abbrev lent : tie.Start → Tables
 lent s =
     let a = s.args in
-    tables a.held.now a.timestamps.now a.order.now a.status.now a.withdrawn.now a.lengths.now a.programs.now a.reads.now a.writes.now a.sources.now a.seen.now a.targets.now a.written.now a.view.now a.versions.now a.cutoff.now a.kept.now
+    tables a.held-1.now a.timestamps-1.now a.order-1.now a.status-1.now a.withdrawn-1.now a.lengths-1.now a.programs-1.now a.reads.now a.writes.now a.sources.now a.seen.now a.targets.now a.written.now a.view.now a.versions-1.now a.cutoff.now a.kept.now
 
 -- ---- the places of the code, from each the one before
 
-abbrev entry : tie.Else1 → tie.Start
+abbrev entry : tie.Else-answers-ne512 → tie.Start
 entry c = search
 
-abbrev sized : tie.After-fault → tie.Else1
+abbrev sized : tie.After-fault-of_tables → tie.Else-answers-ne512
 sized c = search
 
-abbrev start : tie.After-fault → tie.Start
+abbrev start : tie.After-fault-of_tables → tie.Start
 start c = entry (sized c)
 
-abbrev faulted : tie.Else2 → tie.After-fault
+abbrev faulted : tie.Else-refusal-ne0 → tie.After-fault-of_tables
 faulted c = search
 
-abbrev accepted : tie.After-take-entries → tie.Else2
+abbrev accepted : tie.After-take_entries → tie.Else-refusal-ne0
 accepted c = search
 
 -- ---- needs
 
 -- no refusal
-passed : (c : tie.Else2) → let s = start (faulted c) in Formed s.args.n (lent s) × (layout_fits s.args.bytes.now ≡ true)
+passed : (c : tie.Else-refusal-ne0) → let s = start (faulted c) in Formed s.args.n (lent s) × (layout_fits s.args.bytes.now ≡ true)
 passed c =
     let f = faulted c in
-    let k = none-refused _ _ c.before.refusal-with.ensures c.if2.false in
-    (faultless _ (lent (start f)) f.fault.ensures k.0, k.1)
+    let k = none-refused _ _ c.before.refusal_with-refusal.ensures c.if-refusal-ne0.false in
+    (faultless _ (lent (start f)) f.fault-of_tables.ensures k.0, k.1)
 
-returns : tie.Need-returns
-returns c = package-wrong-length _ (lent (the tie.Start (search))) _ _ c.if1.true
+returns : tie.Need-returns-then-answers-ne512
+returns c = package-wrong-length _ (lent (the tie.Start (search))) _ _ c.if-answers-ne512.true
 
-returns-2 : tie.Need-returns-2
+returns-2 : tie.Need-returns-then-refusal-ne0
 returns-2 c =
     let w = c.before in
-    let f : tie.After-fault = search in
-    package-refused _ (lent (start f)) _ _ (sized f).if1.left (w.refusal-with.ensures ∙ ap (λ (r : ℕ). refusal_with r (start f).args.bytes.now) f.fault.ensures) c.if2.true
+    let f : tie.After-fault-of_tables = search in
+    package-refused _ (lent (start f)) _ _ (sized f).if-answers-ne512.false (w.refusal_with-refusal.ensures ∙ ap (λ (r : ℕ). refusal_with r (start f).args.bytes.now) f.fault-of_tables.ensures) c.if-refusal-ne0.true
 
-take-entries-requires : tie.Need-take-entries-requires
+take-entries-requires : tie.Need-take_entries-requires
 take-entries-requires c κs =
-    let e : tie.Else2 = search in
+    let e : tie.Else-refusal-ne0 = search in
     let f = faulted e in
     record {
       laid_out = (passed e).1;
-      sized = (sized f).if1.left;
+      sized = (sized f).if-answers-ne512.false;
       formed = record { capacity = (start f).args.n; others = lent (start f); formed = (passed e).0 };
     }
 
-returns-3 : tie.Need-returns-3
+returns-3 : tie.Need-returns
 returns-3 c =
-    let t : tie.After-take-entries = search in
+    let t : tie.After-take_entries = search in
     let e = accepted t in
-    t.take-entries.ensures.taken (lent (start (faulted e))) (passed e).0
+    t.take_entries.ensures.true (lent (start (faulted e))) (passed e).0
 
-pub take-in-package-spec : {M : Type 1} → statement M
-take-in-package-spec =
+pub take_in_package_spec : {M : Type 1} → statement M
+take_in_package_spec =
     tie.close
     (tie.spec
     returns
@@ -86,13 +86,13 @@ take-in-package-spec =
     (λ c. refl)
     returns-2
     take-entries-requires
-    (λ c. omega (arith, (the tie.After-take-entries (search)).take-entries.kept))
-    (λ c. omega (arith, (the tie.After-take-entries (search)).take-entries.kept))
-    (λ c. omega (arith, (the tie.After-take-entries (search)).take-entries.kept))
-    (λ c. omega (arith, (the tie.After-take-entries (search)).take-entries.kept))
-    (λ c. omega (arith, (the tie.After-take-entries (search)).take-entries.kept))
-    (λ c. omega (arith, (the tie.After-take-entries (search)).take-entries.kept))
-    (λ c. omega (arith, (the tie.After-take-entries (search)).take-entries.kept))
-    (λ c. omega (arith, (the tie.After-take-entries (search)).take-entries.kept))
-    (λ c. omega (arith, (the tie.After-take-entries (search)).take-entries.kept))
+    (λ c. omega (arith, (the tie.After-take_entries (search)).take_entries.kept))
+    (λ c. omega (arith, (the tie.After-take_entries (search)).take_entries.kept))
+    (λ c. omega (arith, (the tie.After-take_entries (search)).take_entries.kept))
+    (λ c. omega (arith, (the tie.After-take_entries (search)).take_entries.kept))
+    (λ c. omega (arith, (the tie.After-take_entries (search)).take_entries.kept))
+    (λ c. omega (arith, (the tie.After-take_entries (search)).take_entries.kept))
+    (λ c. omega (arith, (the tie.After-take_entries (search)).take_entries.kept))
+    (λ c. omega (arith, (the tie.After-take_entries (search)).take_entries.kept))
+    (λ c. omega (arith, (the tie.After-take_entries (search)).take_entries.kept))
     returns-3)

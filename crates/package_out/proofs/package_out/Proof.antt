@@ -16,31 +16,31 @@ lent s =
     let a = s.args in
     tables a.held.now a.timestamps.now a.order.now a.status.now a.withdrawn.now a.lengths.now a.programs.now a.reads.now a.writes.now a.sources.now a.seen.now a.targets.now a.written.now a.view.now a.versions.now a.cutoff.now a.kept.now
 
-abbrev entry : tie.After-fault → tie.Start
+abbrev entry : tie.After-fault-refusal → tie.Start
 entry c = search
 
-fits : (c : tie.Else1) → let s = entry c.before in Formed s.args.n (lent s)
-fits c = faultless _ (lent (entry c.before)) c.before.fault.ensures c.if1.false
+fits : (c : tie.Else-refusal-ne0) → let s = entry c.before in Formed s.args.n (lent s)
+fits c = faultless _ (lent (entry c.before)) c.before.fault-refusal.ensures c.if-refusal-ne0.false
 
-returns : tie.Need-returns
-returns c = out-fault _ (lent (entry c.before)) _ c.before.fault.ensures c.if1.true
+returns : tie.Need-returns-then-refusal-ne0
+returns c = out-fault _ (lent (entry c.before)) _ c.before.fault-refusal.ensures c.if-refusal-ne0.true
 
-put-package-requires : tie.Need-put-package-requires
-put-package-requires c κs = let h : tie.After-held-count = search in held-parts (fits (search)) h.held-count.ensures
+put-package-requires : tie.Need-put_package-requires
+put-package-requires c κs = let h : tie.After-held_count-count = search in held-parts (fits (search)) h.held_count-count.ensures
 
-returns-2 : tie.Need-returns-2
+returns-2 : tie.Need-returns
 returns-2 c =
-    let p : tie.After-put-package = search in
-    let h : tie.After-held-count = search in
-    p.put-package.ensures ∙ out-formed _ _ _ (fits (search)) h.held-count.ensures
+    let p : tie.After-put_package = search in
+    let h : tie.After-held_count-count = search in
+    p.put_package.ensures ∙ out-formed _ _ _ (fits (search)) h.held_count-count.ensures
 
-pub package-out-spec : {M : Type 1} → statement M
-package-out-spec =
+pub package_out_spec : {M : Type 1} → statement M
+package_out_spec =
     tie.close
     (tie.spec
     (λ c κs. tt)
     returns
     (λ c κs. (facts (fits c)).sizes.held)
     put-package-requires
-    (λ c. omega (arith, (the tie.After-put-package (search)).put-package.kept))
+    (λ c. omega (arith, (the tie.After-put_package (search)).put_package.kept))
     returns-2)

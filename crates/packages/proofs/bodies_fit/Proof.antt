@@ -13,52 +13,52 @@ use Rattle.general.proofs.Places.{the}
 use Rattle.packages.proofs.bodies_fit.Statement.{statement}
 use Rattle.packages.proofs.bodies_fit.Tie as tie
 
-abbrev invariant-loop : tie.invariant-loop
+abbrev invariant-loop : tie.invariant-loop-j
 invariant-loop bytes count fits₀ body₀ j₀ fits body j =
     Tested (entry_fits bytes) count j fits × (body ≡ entry_at count + 8 * count_before bytes j)
 
-abbrev decreases-loop : tie.decreases-loop
+abbrev decreases-loop : tie.decreases-loop-j
 decreases-loop bytes count fits₀ body₀ j₀ fits body j = count - j
 
-loop-holds : tie.Need-loop-init invariant-loop decreases-loop
+loop-holds : tie.Need-loop-j-init invariant-loop decreases-loop
 unfolding count_before
-loop-holds c = (test-none, omega (arith, c.entry_at.ensures))
+loop-holds c = (test-none, omega (arith, c.entry_at-body.ensures))
 
 -- the end of the body of this turn's entry
-next : (c : tie.After-count-at invariant-loop decreases-loop) → let a = c.before.before.before.before.before.before.args in let l = c.before.before.before.loop in l.body + 8 * c.count_at.result ≡ entry_at a.count + 8 * count_before a.bytes.now (l.j + 1)
+next : (c : tie.After-count_at invariant-loop decreases-loop) → let a = c.before.before.before.before.before.before.args in let l = c.before.before.before.loop-j in l.body + 8 * c.count_at.result ≡ entry_at a.count + 8 * count_before a.bytes.now (l.j + 1)
 next c =
     let a = (the (tie.Start invariant-loop decreases-loop) (search)).args in
-    let l = (the (tie.At-loop invariant-loop decreases-loop) (search)).loop in
-    omega (arith, l.inv.1, c.count_at.ensures, counts-next a.bytes.now l.j)
+    let l = (the (tie.At-loop-j invariant-loop decreases-loop) (search)).loop-j in
+    omega (arith, l.invariant.1, c.count_at.ensures, counts-next a.bytes.now l.j)
 
 -- it fits
-fits : (c : tie.After-count-at invariant-loop decreases-loop) → c.before.before.before.loop.body + 8 * c.count_at.result ≤ 1050626
+fits : (c : tie.After-count_at invariant-loop decreases-loop) → c.before.before.before.loop-j.body + 8 * c.count_at.result ≤ 1050626
 fits c =
     let k = c.before.before.before.before.before in
     let a = (the (tie.Start invariant-loop decreases-loop) (search)).args in
-    let l = (the (tie.At-loop invariant-loop decreases-loop) (search)).loop in
-    omega (arith, next c, counts-small a.bytes.now (λ i. omega (arith, k.shared-slice-known.given i)) (l.j + 1), (the (tie.In-loop invariant-loop decreases-loop) (search)).loop-test.taken, (the (tie.Start invariant-loop decreases-loop) (search)).pre)
+    let l = (the (tie.At-loop-j invariant-loop decreases-loop) (search)).loop-j in
+    omega (arith, next c, counts-small a.bytes.now (λ i. omega (arith, k.shared_slice_known-1.given i)) (l.j + 1), (the (tie.In-loop-j invariant-loop decreases-loop) (search)).loop-j-test.true, (the (tie.Start invariant-loop decreases-loop) (search)).requires)
 
-loop-again : tie.Need-loop-preserved invariant-loop decreases-loop
+loop-again : tie.Need-loop-j-preserved invariant-loop decreases-loop
 loop-again c =
-    let at-entry-fits : tie.After-entry-fits invariant-loop decreases-loop = search in
-    let at-in-loop : tie.In-loop invariant-loop decreases-loop = search in
-    let at-loop : tie.At-loop invariant-loop decreases-loop = search in
-    (test-next at-in-loop.loop-test.taken at-entry-fits.entry-fits.ensures at-loop.loop.inv.0, next c)
+    let at-entry-fits : tie.After-entry_fits-fits invariant-loop decreases-loop = search in
+    let at-in-loop : tie.In-loop-j invariant-loop decreases-loop = search in
+    let at-loop : tie.At-loop-j invariant-loop decreases-loop = search in
+    (test-next at-in-loop.loop-j-test.true at-entry-fits.entry_fits-fits.ensures at-loop.loop-j.invariant.0, next c)
 
 returns : tie.Need-returns invariant-loop decreases-loop
 returns c =
-    let at-loop : tie.At-loop invariant-loop decreases-loop = search in
+    let at-loop : tie.At-loop-j invariant-loop decreases-loop = search in
     let start : tie.Start invariant-loop decreases-loop = search in
     let a = start.args in
-    let l = at-loop.loop in
-    let e : l.j ≡ a.count = omega (arith, l.inv.0.within) in
-    let b = rw e at l.inv.1 in
-    let t = test-last c.loop-test.false l.inv.0 in
+    let l = at-loop.loop-j in
+    let e : l.j ≡ a.count = omega (arith, l.invariant.0.within) in
+    let b = rw e at l.invariant.1 in
+    let t = test-last c.loop-j-test.false l.invariant.0 in
     λ i. t i && eqb (length a.bytes.now) (b i)
 
-pub bodies-fit-spec : {M : Type 1} → statement M
-bodies-fit-spec =
+pub bodies_fit_spec : {M : Type 1} → statement M
+bodies_fit_spec =
     tie.close
     (tie.spec
     invariant-loop

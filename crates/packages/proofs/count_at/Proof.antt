@@ -6,12 +6,12 @@ use Rattle.general.proofs.Places.{the}
 use Rattle.packages.proofs.count_at.Statement.{statement}
 use Rattle.packages.proofs.count_at.Tie as tie
 
-cast-result : tie.Need-overflow-cast-result
-cast-result c = omega (arith, c.shared-slice-known2.given ((the tie.After-entry-at (search)).entry_at.result + 9))
+cast-result : tie.Need-overflow_cast-result
+cast-result c = omega (arith, c.shared_slice_known-2-1.given ((the tie.After-entry_at (search)).entry_at.result + 9))
 
 returns : tie.Need-returns
-returns c = let at-entry-at : tie.After-entry-at = search in rw at-entry-at.entry_at.ensures
+returns c = let at-entry-at : tie.After-entry_at = search in rw at-entry-at.entry_at.ensures
 
-pub count-at-spec : {M : Type 1} → statement M
-count-at-spec =
+pub count_at_spec : {M : Type 1} → statement M
+count_at_spec =
     tie.close (tie.spec (λ c κs. search rules) (λ c. search rules) (λ c. search rules) cast-result returns)

@@ -5,10 +5,10 @@ use Rattle.packages.proofs.entry_fits.Statement.{statement}
 use Rattle.packages.proofs.entry_fits.Tie as tie
 
 returns : tie.Need-returns
-returns c = let at-entry-at : tie.After-entry-at = search in rw at-entry-at.entry_at.ensures (simp (and_assoc, and-true))
+returns c = let at-entry-at : tie.After-entry_at-at = search in rw at-entry-at.entry_at-at.ensures (simp (and_assoc, and-true))
 
-pub entry-fits-spec : {M : Type 1} → statement M
-entry-fits-spec =
+pub entry_fits_spec : {M : Type 1} → statement M
+entry_fits_spec =
     tie.close
     (tie.spec
     (λ c κs. search rules)

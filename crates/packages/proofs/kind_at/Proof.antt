@@ -4,7 +4,7 @@ use Rattle.packages.proofs.kind_at.Statement.{statement}
 use Rattle.packages.proofs.kind_at.Tie as tie
 
 returns : tie.Need-returns
-returns c = let at-entry-at : tie.After-entry-at = search in rw at-entry-at.entry_at.ensures
+returns c = let at-entry-at : tie.After-entry_at = search in rw at-entry-at.entry_at.ensures
 
-pub kind-at-spec : {M : Type 1} → statement M
-kind-at-spec = tie.close (tie.spec (λ c κs. search rules) (λ c. search rules) (λ c. search rules) returns)
+pub kind_at_spec : {M : Type 1} → statement M
+kind_at_spec = tie.close (tie.spec (λ c κs. search rules) (λ c. search rules) (λ c. search rules) returns)

@@ -4,11 +4,11 @@ use borrow.Author.Tests.{eq-eqb, ne_eqb, not-true, not-false}
 use Rattle.packages.proofs.refusal_with.Statement.{statement}
 use Rattle.packages.proofs.refusal_with.Tie as tie
 
-pub refusal-with-spec : {M : Type 1} → statement M
-refusal-with-spec =
+pub refusal_with_spec : {M : Type 1} → statement M
+refusal_with_spec =
     tie.close
     (tie.spec
-    (λ c. rw (ne_eqb _ 0 c.if1.true))
+    (λ c. rw (ne_eqb _ 0 c.if-fault-ne0.true))
     (λ c κs. tt)
-    (λ c. let at-else1 : tie.Else1 = search in rw (eq-eqb _ 0 at-else1.if1.left, sym c.before.layout-fits.ensures ∙ not-true _ c.if2.true))
-    (λ c. let at-else1 : tie.Else1 = search in rw (eq-eqb _ 0 at-else1.if1.left, sym c.before.layout-fits.ensures ∙ not-false _ c.if2.false)))
+    (λ c. let at-else1 : tie.Else-fault-ne0 = search in rw (eq-eqb _ 0 at-else1.if-fault-ne0.false, sym c.before.layout_fits.ensures ∙ not-true _ c.if-not-layout_fits.true))
+    (λ c. let at-else1 : tie.Else-fault-ne0 = search in rw (eq-eqb _ 0 at-else1.if-fault-ne0.false, sym c.before.layout_fits.ensures ∙ not-false _ c.if-not-layout_fits.false)))

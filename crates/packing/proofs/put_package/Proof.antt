@@ -17,21 +17,21 @@ use Rattle.packing.proofs.put_package.Tie as tie
 abbrev started : tie.After-total → tie.Start
 started c = search
 
-abbrev entry : tie.After-total2 → tie.Start
+abbrev entry : tie.After-total-2 → tie.Start
 entry c = started (search)
 
 -- past the test
-abbrev tested : tie.After-put-little-endian → tie.Else1
+abbrev tested : tie.After-put_little_endian-end → tie.Else-not-entries-size
 tested c = search
 
 -- the number, from the changes; these from the withdrawals; these from the bodies; the bodies from the return
-abbrev numbered : tie.After-put-changes → tie.After-put-little-endian
+abbrev numbered : tie.After-put_changes-end → tie.After-put_little_endian-end
 numbered c = search
 
-abbrev changed : tie.After-put-withdrawals → tie.After-put-changes
+abbrev changed : tie.After-put_withdrawals-end → tie.After-put_changes-end
 changed c = search
 
-abbrev cleared : tie.After-put-bodies → tie.After-put-withdrawals
+abbrev cleared : tie.After-put_bodies-end → tie.After-put_withdrawals-end
 cleared c = search
 
 -- how many entries there are
@@ -39,17 +39,17 @@ counted : (c : tie.After-total) → let a = (started c).args in a.count + c.tota
 counted c = ap (λ (k : ℕ). (started c).args.count + k) c.total.ensures
 
 -- how long the package is
-sized : (c : tie.After-total2) → let a = (entry c).args in 2 + 12 * (a.count + c.before.total.result) + 8 * c.total2.result ≡ length (package_in a.order.now a.timestamps.now a.withdrawn.now a.lengths.now a.programs.now a.versions.now a.count)
-sized c = omega (arith, counted (search), c.total2.ensures, package-length (entry c).requires)
+sized : (c : tie.After-total-2) → let a = (entry c).args in 2 + 12 * (a.count + c.before.total.result) + 8 * c.total-2.result ≡ length (package_in a.order.now a.timestamps.now a.withdrawn.now a.lengths.now a.programs.now a.versions.now a.count)
+sized c = omega (arith, counted (search), c.total-2.ensures, package-length (entry c).requires)
 
 -- within its limits and the slice
-fits : (c : tie.Else1) → let a = (entry c.before).args in (a.count + c.before.before.total.result ≤ 512) × (2 + 12 * (a.count + c.before.before.total.result) + 8 * c.before.total2.result ≤ 65535) × (2 + 12 * (a.count + c.before.before.total.result) + 8 * c.before.total2.result ≤ length a.bytes.now)
-fits c = limits (entry c.before).requires (entry c.before).args.bytes.now (counted (search)) (sized c.before) (not-false _ c.if1.false)
+fits : (c : tie.Else-not-entries-size) → let a = (entry c.before).args in (a.count + c.before.before.total.result ≤ 512) × (2 + 12 * (a.count + c.before.before.total.result) + 8 * c.before.total-2.result ≤ 65535) × (2 + 12 * (a.count + c.before.before.total.result) + 8 * c.before.total-2.result ≤ length a.bytes-1.now)
+fits c = limits (entry c.before).requires (entry c.before).args.bytes-1.now (counted (search)) (sized c.before) (not-false _ c.if-not-entries-size.false)
 
 total-requires : tie.Need-total-requires
 total-requires c κs =
     let start : tie.Start = search in
-    let h = start.pre in
+    let h = start.requires in
     (h.small, rw h.flags h.placed)
 
 total-requires-2 : tie.Need-total-requires-2
@@ -59,58 +59,58 @@ total-requires-2 c κs = let h = (started c).requires in (h.small, rw h.sizes h.
 small : (c : tie.After-total) → c.total.result ≤ 65535 * 4096
 small c = let h = (started c).requires in omega (arith, c.total.ensures, few-flags h, h.small)
 
-small-2 : (c : tie.After-total2) → c.total2.result ≤ 65535 * 4096
-small-2 c = let h = (entry c).requires in omega (arith, c.total2.ensures, few-instructions h, h.small)
+small-2 : (c : tie.After-total-2) → c.total-2.result ≤ 65535 * 4096
+small-2 c = let h = (entry c).requires in omega (arith, c.total-2.ensures, few-instructions h, h.small)
 
-returns : tie.Need-returns
+returns : tie.Need-returns-then-not-entries-size
 returns c =
     let t = c.before in
-    packed-refused (entry t).requires _ (counted (search)) (sized t) (not-true _ c.if1.true)
+    packed-refused (entry t).requires _ (counted (search)) (sized t) (not-true _ c.if-not-entries-size.true)
 
-put-changes-requires : tie.Need-put-changes-requires
+put-changes-requires : tie.Need-put_changes-end-requires
 put-changes-requires c κs =
-    let n : tie.After-put-little-endian = search in
+    let n : tie.After-put_little_endian-end = search in
     let e = tested n in
     let h = (entry e.before).requires in
-    (h.placed, h.sizes, h.short, h.versioned, h.version, omega (arith, n.put-little-endian.ensures.ends, n.put-little-endian.kept, (fits e).2))
+    (h.placed, h.sizes, h.short, h.versioned, h.version, omega (arith, n.put_little_endian-end.ensures.ends, n.put_little_endian-end.kept, (fits e).2))
 
-put-withdrawals-requires : tie.Need-put-withdrawals-requires
+put-withdrawals-requires : tie.Need-put_withdrawals-end-requires
 put-withdrawals-requires c κs =
-    let p : tie.After-put-changes = search in
+    let p : tie.After-put_changes-end = search in
     let n = numbered p in
     let e = tested n in
     let s = entry e.before in
-    let h = s.pre in
-    (h.placed, h.flags, h.flag, omega (arith, n.put-little-endian.ensures.ends, n.put-little-endian.kept, p.put-changes.ensures.ends, p.put-changes.kept, changes-length s.args.order.now s.args.timestamps.now s.args.lengths.now s.args.versions.now s.args.count, (the tie.After-total (search)).total.ensures, (fits e).2))
+    let h = s.requires in
+    (h.placed, h.flags, h.flag, omega (arith, n.put_little_endian-end.ensures.ends, n.put_little_endian-end.kept, p.put_changes-end.ensures.ends, p.put_changes-end.kept, changes-length s.args.order.now s.args.timestamps.now s.args.lengths.now s.args.versions.now s.args.count, (the tie.After-total (search)).total.ensures, (fits e).2))
 
-put-bodies-requires : tie.Need-put-bodies-requires
+put-bodies-requires : tie.Need-put_bodies-end-requires
 put-bodies-requires c κs =
-    let w : tie.After-put-withdrawals = search in
+    let w : tie.After-put_withdrawals-end = search in
     let p = changed w in
     let n = numbered p in
     let e = tested n in
     let s = entry e.before in
-    let h = s.pre in
-    (rw h.sizes h.placed, h.blocks ∙ ap (256 *◌) (sym h.sizes), h.short, omega (arith, n.put-little-endian.ensures.ends, n.put-little-endian.kept, p.put-changes.ensures.ends, p.put-changes.kept, w.put-withdrawals.ensures.ends, w.put-withdrawals.kept, changes-length s.args.order.now s.args.timestamps.now s.args.lengths.now s.args.versions.now s.args.count, withdrawals-length s.args.order.now s.args.timestamps.now s.args.withdrawn.now h.flag s.args.count, (the tie.After-total (search)).total.ensures, e.before.total2.ensures, (fits e).2))
+    let h = s.requires in
+    (rw h.sizes h.placed, h.blocks ∙ ap (256 *◌) (sym h.sizes), h.short, omega (arith, n.put_little_endian-end.ensures.ends, n.put_little_endian-end.kept, p.put_changes-end.ensures.ends, p.put_changes-end.kept, w.put_withdrawals-end.ensures.ends, w.put_withdrawals-end.kept, changes-length s.args.order.now s.args.timestamps.now s.args.lengths.now s.args.versions.now s.args.count, withdrawals-length s.args.order.now s.args.timestamps.now s.args.withdrawn.now h.flag s.args.count, (the tie.After-total (search)).total.ensures, e.before.total-2.ensures, (fits e).2))
 
 -- the whole package
-put : (c : tie.After-put-bodies) → let w = cleared c in let p = changed w in let n = numbered p in let a = (entry (tested n).before).args in Put 0 (package_in a.order.now a.timestamps.now a.withdrawn.now a.lengths.now a.programs.now a.versions.now a.count) a.bytes.now c.put-bodies.new.1.1.1.1.0 c.put-bodies.result
+put : (c : tie.After-put_bodies-end) → let w = cleared c in let p = changed w in let n = numbered p in let a = (entry (tested n).before).args in Put 0 (package_in a.order.now a.timestamps.now a.withdrawn.now a.lengths.now a.programs.now a.versions.now a.count) a.bytes-1.now c.put_bodies-end.new.1.1.1.1.0 c.put_bodies-end.result
 put c =
     let w = cleared c in
     let p = changed w in
     let n = numbered p in
     let t = (tested n).before in
-    parts-put (entry t).pre _ (counted (search)) n.put-little-endian.ensures p.put-changes.ensures w.put-withdrawals.ensures c.put-bodies.ensures
+    parts-put (entry t).requires _ (counted (search)) n.put_little_endian-end.ensures p.put_changes-end.ensures w.put_withdrawals-end.ensures c.put_bodies-end.ensures
 
-returns-2 : tie.Need-returns-2
+returns-2 : tie.Need-returns
 returns-2 c =
-    let b : tie.After-put-bodies = search in
+    let b : tie.After-put_bodies-end = search in
     let e = tested (numbered (changed (cleared b))) in
     let t = e.before in
-    packed-put (entry t).pre _ (counted (search)) (sized t) (not-false _ e.if1.left) (put b)
+    packed-put (entry t).requires _ (counted (search)) (sized t) (not-false _ e.if-not-entries-size.false) (put b)
 
-pub put-package-spec : {M : Type 1} → statement M
-put-package-spec =
+pub put_package_spec : {M : Type 1} → statement M
+put_package_spec =
     tie.close
     (tie.spec
     total-requires

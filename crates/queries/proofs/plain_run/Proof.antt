@@ -20,41 +20,41 @@ lent s =
     let a = s.args in
     tables a.held.now a.timestamps.now a.order.now a.status.now a.withdrawn.now a.lengths.now a.programs.now a.reads.now a.writes.now a.sources.now a.seen.now a.targets.now a.written.now a.view.now a.versions.now a.cutoff.now a.kept.now
 
-abbrev entered : tie.After-fault → tie.Start
+abbrev entered : tie.After-fault-refusal → tie.Start
 entered c = search
 
-fits : (c : tie.Else2) → let s = entered c.before in Formed s.args.n (lent s)
-fits c = faultless _ (lent (entered c.before)) c.before.fault.ensures c.if2.false
+fits : (c : tie.Else-refusal-ne0) → let s = entered c.before in Formed s.args.n (lent s)
+fits c = faultless _ (lent (entered c.before)) c.before.fault-refusal.ensures c.if-refusal-ne0.false
 
-returns : tie.Need-returns
-returns c = let start : tie.Start = search in plain-wrong-length _ (lent start) _ c.if1.true
+returns : tie.Need-returns-then-settings-ne1024
+returns c = let start : tie.Start = search in plain-wrong-length _ (lent start) _ c.if-settings-ne1024.true
 
-returns-2 : tie.Need-returns-2
-returns-2 c = let at-else1 : tie.Else1 = search in let f = c.before in plain-fault _ (lent (entered f)) _ at-else1.if1.left f.fault.ensures c.if2.true
+returns-2 : tie.Need-returns-then-refusal-ne0
+returns-2 c = let at-else1 : tie.Else-settings-ne1024 = search in let f = c.before in plain-fault _ (lent (entered f)) _ at-else1.if-settings-ne1024.false f.fault-refusal.ensures c.if-refusal-ne0.true
 
 -- from the kept values filled in to the changes counted
-abbrev counted : tie.After-fill-from → tie.After-held-count
+abbrev counted : tie.After-fill_from → tie.After-held_count-count
 counted c = search
 
-run-held-requires : tie.Need-run-held-requires
+run-held-requires : tie.Need-run_held-requires
 run-held-requires c κs =
-    let f : tie.After-fill-from = search in
-    (held-programs (fits (search)) (counted f).held-count.ensures, omega (arith, f.fill-from.kept))
+    let f : tie.After-fill_from = search in
+    (held-programs (fits (search)) (counted f).held_count-count.ensures, omega (arith, f.fill_from.kept))
 
-returns-3 : tie.Need-returns-3
+returns-3 : tie.Need-returns
 returns-3 c =
-    let at-fill-from2 : tie.After-fill-from2 = search in
-    let at-else1 : tie.Else1 = search in
-    let r : tie.After-run-held = search in
-    let f : tie.After-fill-from = search in
+    let at-fill-from2 : tie.After-fill_from-2 = search in
+    let at-else1 : tie.Else-settings-ne1024 = search in
+    let r : tie.After-run_held = search in
+    let f : tie.After-fill_from = search in
     let h = counted f in
-    let u : tie.Else2 = search in
+    let u : tie.Else-refusal-ne0 = search in
     let T = lent (entered u.before) in
-    plain_done _ T _ at-else1.if1.left (fits u) h.held-count.ensures
-    (at-fill-from2.fill-from2.ensures ∙ r.run-held.ensures ∙ ap (λ (values : List ℤ). held_run T.order T.withdrawn (program_at T) values h.held-count.result) f.fill-from.ensures)
+    plain_done _ T _ at-else1.if-settings-ne1024.false (fits u) h.held_count-count.ensures
+    (at-fill-from2.fill_from-2.ensures ∙ r.run_held.ensures ∙ ap (λ (values : List ℤ). held_run T.order T.withdrawn (program_at T) values h.held_count-count.result) f.fill_from.ensures)
 
-pub plain-run-spec : {M : Type 1} → statement M
-plain-run-spec =
+pub plain_run_spec : {M : Type 1} → statement M
+plain_run_spec =
     tie.close
     (tie.spec
     returns
@@ -63,9 +63,9 @@ plain-run-spec =
     (λ c κs. (facts (fits c)).sizes.held)
     (λ c. refl)
     (λ c κs. ((facts (fits (search))).sizes.kept, refl))
-    (λ c. omega (arith, (the tie.After-fill-from (search)).fill-from.kept))
+    (λ c. omega (arith, (the tie.After-fill_from (search)).fill_from.kept))
     run-held-requires
     (λ c. search rules)
     (λ c κs. search rules)
-    (λ c. let at-fill-from2 : tie.After-fill-from2 = search in omega (arith, at-fill-from2.fill-from2.kept))
+    (λ c. let at-fill-from2 : tie.After-fill_from-2 = search in omega (arith, at-fill-from2.fill_from-2.kept))
     returns-3)

@@ -14,22 +14,22 @@ lent s =
     let a = s.args in
     tables a.held.now a.timestamps.now a.order.now a.status.now a.withdrawn.now a.lengths.now a.programs.now a.reads.now a.writes.now a.sources.now a.seen.now a.targets.now a.written.now a.view.now a.versions.now a.cutoff.now a.kept.now
 
-abbrev entry : tie.After-fault → tie.Start
+abbrev entry : tie.After-fault-refusal → tie.Start
 entry c = search
 
-fits : (c : tie.Else1) → let s = entry c.before in Formed s.args.n (lent s)
-fits c = faultless _ (lent (entry c.before)) c.before.fault.ensures c.if1.false
+fits : (c : tie.Else-refusal-ne0) → let s = entry c.before in Formed s.args.n (lent s)
+fits c = faultless _ (lent (entry c.before)) c.before.fault-refusal.ensures c.if-refusal-ne0.false
 
-returns : tie.Need-returns
-returns c = as-of-fault _ (lent (entry c.before)) _ _ c.before.fault.ensures c.if1.true
+returns : tie.Need-returns-then-refusal-ne0
+returns c = as-of-fault _ (lent (entry c.before)) _ _ c.before.fault-refusal.ensures c.if-refusal-ne0.true
 
-value-at-requires : tie.Need-value-at-requires
-value-at-requires c κs = let h : tie.After-held-count = search in as-of-asks (fits (search)) h.held-count.ensures
+value-at-requires : tie.Need-value_at-requires
+value-at-requires c κs = let h : tie.After-held_count-count = search in as-of-asks (fits (search)) h.held_count-count.ensures
 
-returns-2 : tie.Need-returns-2
-returns-2 c = let h : tie.After-held-count = search in c.value-at.ensures ∙ as-of-formed _ _ _ _ (fits (search)) h.held-count.ensures
+returns-2 : tie.Need-returns
+returns-2 c = let h : tie.After-held_count-count = search in c.value_at.ensures ∙ as-of-formed _ _ _ _ (fits (search)) h.held_count-count.ensures
 
-pub value-as-of-spec : {M : Type 1} → statement M
-value-as-of-spec =
+pub value_as_of_spec : {M : Type 1} → statement M
+value_as_of_spec =
     tie.close
     (tie.spec (λ c κs. tt) returns (λ c κs. (facts (fits c)).sizes.held) (λ c. omega (arith, (facts (fits (search))).sizes.cutoff)) value-at-requires returns-2)

@@ -22,11 +22,11 @@ module _ (settings : List ℤ) where
   unfolding start_values
   start-done l e = rw (eq-eqb _ setting_count l) (ap (plain_reply answer.Done) (e ∙ all_start))
 
-returns : tie.Need-returns
-returns c = let at-fill-start : tie.After-fill-start = search in let at-then1 : tie.Then1 = search in start-done _ at-then1.if1.taken at-fill-start.fill_start.ensures
+returns : tie.Need-returns-then-settings-eq1024
+returns c = let at-fill-start : tie.After-fill_start = search in let at-then1 : tie.Then-settings-eq1024 = search in start-done _ at-then1.if-settings-eq1024.true at-fill-start.fill_start.ensures
 
-returns-2 : tie.Need-returns-2
-returns-2 c = start-wrong-length _ c.if1.false
+returns-2 : tie.Need-returns
+returns-2 c = start-wrong-length _ c.if-settings-eq1024.false
 
-pub start-values-spec : {M : Type 1} → statement M
-start-values-spec = tie.close (tie.spec (λ c κs. let at-then1 : tie.Then1 = search in at-then1.if1.taken) (λ c. let at-fill-start : tie.After-fill-start = search in omega (arith, at-fill-start.fill_start.kept)) returns returns-2)
+pub start_values_spec : {M : Type 1} → statement M
+start_values_spec = tie.close (tie.spec (λ c κs. let at-then1 : tie.Then-settings-eq1024 = search in at-then1.if-settings-eq1024.true) (λ c. let at-fill-start : tie.After-fill_start = search in omega (arith, at-fill-start.fill_start.kept)) returns returns-2)

@@ -10,69 +10,69 @@ use Rattle.replies.proofs.Turning.{turns_left, Turning, turning-begins, turning-
 use Rattle.replies.proofs.put_turns.Statement.{statement}
 use Rattle.replies.proofs.put_turns.Tie as tie
 
-abbrev invariant-loop : tie.invariant-loop
+abbrev invariant-loop : tie.invariant-loop-idle
 invariant-loop held timestamps order status₀ withdrawn lengths programs reads₀ writes₀ sources₀ seen₀ targets₀ written₀ view₀ versions cutoff kept text₀ at end₀ idle₀ status reads writes sources seen targets written view text end idle =
     Turning (tables held timestamps order status₀ withdrawn lengths programs reads₀ writes₀ sources₀ seen₀ targets₀ written₀ view₀ versions cutoff kept) at text₀ (tables held timestamps order status withdrawn lengths programs reads writes sources seen targets written view versions cutoff kept) text end idle
 
-abbrev decreases-loop : tie.decreases-loop
+abbrev decreases-loop : tie.decreases-loop-idle
 decreases-loop held timestamps order status₀ withdrawn lengths programs reads₀ writes₀ sources₀ seen₀ targets₀ written₀ view₀ versions cutoff kept text₀ at end₀ idle₀ status reads writes sources seen targets written view text end idle =
     turns_left (tables held timestamps order status withdrawn lengths programs reads writes sources seen targets written view versions cutoff kept) idle
 
 abbrev lent : tie.Start invariant-loop decreases-loop → Tables
 lent s =
     let a = s.args in
-    tables a.held.now a.timestamps.now a.order.now a.status.now a.withdrawn.now a.lengths.now a.programs.now a.reads.now a.writes.now a.sources.now a.seen.now a.targets.now a.written.now a.view.now a.versions.now a.cutoff.now a.kept.now
+    tables a.held.now a.timestamps.now a.order.now a.status-1.now a.withdrawn.now a.lengths.now a.programs.now a.reads-1.now a.writes-1.now a.sources-1.now a.seen-1.now a.targets-1.now a.written-1.now a.view-1.now a.versions.now a.cutoff.now a.kept.now
 
 -- the entry, from the loop
-abbrev entry : tie.At-loop invariant-loop decreases-loop → tie.Start invariant-loop decreases-loop
+abbrev entry : tie.At-loop-idle invariant-loop decreases-loop → tie.Start invariant-loop decreases-loop
 entry c = search
 
 -- the loop's test, from the turn
-abbrev tested : tie.After-turn invariant-loop decreases-loop → tie.In-loop invariant-loop decreases-loop
+abbrev tested : tie.After-turn-answer invariant-loop decreases-loop → tie.In-loop-idle invariant-loop decreases-loop
 tested c = search
 
 -- the turn, from its line
-abbrev turned : tie.After-put-turn invariant-loop decreases-loop → tie.After-turn invariant-loop decreases-loop
+abbrev turned : tie.After-put_turn-end invariant-loop decreases-loop → tie.After-turn-answer invariant-loop decreases-loop
 turned c = search
 
 -- its line, from the end of the loop's body
-abbrev lined : tie.After-is-idle invariant-loop decreases-loop → tie.After-put-turn invariant-loop decreases-loop
+abbrev lined : tie.After-is_idle-idle invariant-loop decreases-loop → tie.After-put_turn-end invariant-loop decreases-loop
 lined c = search
 
-loop-holds : tie.Need-loop-init invariant-loop decreases-loop
+loop-holds : tie.Need-loop-idle-init invariant-loop decreases-loop
 loop-holds c =
     let s : tie.Start invariant-loop decreases-loop = search in
-    turning-begins (lent s) _ _ s.pre.0
+    turning-begins (lent s) _ _ s.requires.formed
 
-put-turn-requires : tie.Need-put-turn-requires invariant-loop decreases-loop
+put-turn-requires : tie.Need-put_turn-end-requires invariant-loop decreases-loop
 put-turn-requires c κs =
-    let t : tie.After-turn invariant-loop decreases-loop = search in
+    let t : tie.After-turn-answer invariant-loop decreases-loop = search in
     let l = (tested t).before in
-    omega (arith, turning-short l.loop.inv, l.loop.inv.same, (entry l).pre.1)
+    omega (arith, turning-short l.loop-idle.invariant, l.loop-idle.invariant.same, (entry l).requires.at_in_bounds)
 
-loop-less : tie.Need-loop-smaller invariant-loop decreases-loop
+loop-less : tie.Need-loop-idle-smaller invariant-loop decreases-loop
 loop-less c =
     let p = lined c in
     let t = turned p in
     let l = (tested t).before in
-    (turning-goes-on l.loop.inv (omega (arith, (entry l).pre.1)) p.put-turn.ensures.1 (omega (arith, p.put-turn.kept)) (not-true _ (tested t).loop-test.taken) t.turn.ensures p.put-turn.ensures.0 c.is-idle.ensures).1
+    (turning-goes-on l.loop-idle.invariant (omega (arith, (entry l).requires.at_in_bounds)) p.put_turn-end.ensures.upper_bound (omega (arith, p.put_turn-end.kept)) (not-true _ (tested t).loop-idle-test.true) t.turn-answer.ensures p.put_turn-end.ensures.put c.is_idle-idle.ensures).1
 
-loop-again : tie.Need-loop-preserved invariant-loop decreases-loop
+loop-again : tie.Need-loop-idle-preserved invariant-loop decreases-loop
 loop-again c =
     let p = lined c in
     let t = turned p in
     let l = (tested t).before in
-    (turning-goes-on l.loop.inv (omega (arith, (entry l).pre.1)) p.put-turn.ensures.1 (omega (arith, p.put-turn.kept)) (not-true _ (tested t).loop-test.taken) t.turn.ensures p.put-turn.ensures.0 c.is-idle.ensures).0
+    (turning-goes-on l.loop-idle.invariant (omega (arith, (entry l).requires.at_in_bounds)) p.put_turn-end.ensures.upper_bound (omega (arith, p.put_turn-end.kept)) (not-true _ (tested t).loop-idle-test.true) t.turn-answer.ensures p.put_turn-end.ensures.put c.is_idle-idle.ensures).0
 
 -- the lengths at the start
-at-start : (c : tie.After-loop invariant-loop decreases-loop) → Lengths capacity (lent (entry c.before))
-at-start c = (facts (entry c.before).pre.0).sizes
+at-start : (c : tie.After-loop-idle invariant-loop decreases-loop) → Lengths capacity (lent (entry c.before))
+at-start c = (facts (entry c.before).requires.formed).sizes
 
 returns : tie.Need-returns invariant-loop decreases-loop
-returns c = turning-ends c.before.loop.invariant (not-false _ c.loop-test.false)
+returns c = turning-ends c.before.loop-idle.invariant (not-false _ c.loop-idle-test.false)
 
-pub put-turns-spec : {M : Type 1} → statement M
-put-turns-spec =
+pub put_turns_spec : {M : Type 1} → statement M
+put_turns_spec =
     tie.close
     (tie.spec
     invariant-loop
@@ -83,13 +83,13 @@ put-turns-spec =
     (λ c κs. tt)
     loop-less
     loop-again
-    (λ c. (turning-lengths c.before.loop.invariant).status ∙ sym (at-start c).status)
-    (λ c. (turning-lengths c.before.loop.invariant).reads ∙ sym (at-start c).reads)
-    (λ c. (turning-lengths c.before.loop.invariant).writes ∙ sym (at-start c).writes)
-    (λ c. (turning-lengths c.before.loop.invariant).sources ∙ sym (at-start c).sources)
-    (λ c. (turning-lengths c.before.loop.invariant).seen ∙ sym (at-start c).seen)
-    (λ c. (turning-lengths c.before.loop.invariant).targets ∙ sym (at-start c).targets)
-    (λ c. (turning-lengths c.before.loop.invariant).written ∙ sym (at-start c).written)
-    (λ c. (turning-lengths c.before.loop.invariant).view ∙ sym (at-start c).view)
-    (λ c. c.before.loop.invariant.same)
+    (λ c. (turning-lengths c.before.loop-idle.invariant).status-1 ∙ sym (at-start c).status-1)
+    (λ c. (turning-lengths c.before.loop-idle.invariant).reads-1 ∙ sym (at-start c).reads-1)
+    (λ c. (turning-lengths c.before.loop-idle.invariant).writes-1 ∙ sym (at-start c).writes-1)
+    (λ c. (turning-lengths c.before.loop-idle.invariant).sources-1 ∙ sym (at-start c).sources-1)
+    (λ c. (turning-lengths c.before.loop-idle.invariant).seen-1 ∙ sym (at-start c).seen-1)
+    (λ c. (turning-lengths c.before.loop-idle.invariant).targets-1 ∙ sym (at-start c).targets-1)
+    (λ c. (turning-lengths c.before.loop-idle.invariant).written-1 ∙ sym (at-start c).written-1)
+    (λ c. (turning-lengths c.before.loop-idle.invariant).view-1 ∙ sym (at-start c).view-1)
+    (λ c. c.before.loop-idle.invariant.same)
     returns)

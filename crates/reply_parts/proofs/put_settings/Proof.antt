@@ -13,70 +13,70 @@ use Rattle.reply_parts.proofs.Values.{setting-read}
 use Rattle.reply_parts.proofs.put_settings.Statement.{statement}
 use Rattle.reply_parts.proofs.put_settings.Tie as tie
 
-abbrev invariant-loop : tie.invariant-loop
+abbrev invariant-loop : tie.invariant-loop-s
 invariant-loop view text₀ at end₀ s₀ text end s = Below (setting_of view) 64 at (length view) text₀ text end s
 
-abbrev decreases-loop : tie.decreases-loop
+abbrev decreases-loop : tie.decreases-loop-s
 decreases-loop view text₀ at end₀ s₀ text end s = length view - s
 
-abbrev entry : tie.At-loop invariant-loop decreases-loop → tie.Start invariant-loop decreases-loop
+abbrev entry : tie.At-loop-s invariant-loop decreases-loop → tie.Start invariant-loop decreases-loop
 entry l = search
 
-loop-holds : tie.Need-loop-init invariant-loop decreases-loop
+loop-holds : tie.Need-loop-s-init invariant-loop decreases-loop
 loop-holds c = below_none _ _ _ _ _
 
-mul-put-setting : tie.Need-overflow-mul-put-setting invariant-loop decreases-loop
+mul-put-setting : tie.Need-offset_bounds-view-s invariant-loop decreases-loop
 mul-put-setting c =
-    let m : tie.In-loop invariant-loop decreases-loop = search in
-    record { fits = omega (arith, m.loop-test.taken, (entry m.before).pre.0) }
+    let m : tie.In-loop-s invariant-loop decreases-loop = search in
+    record { fits = omega (arith, m.loop-s-test.true, (entry m.before).requires.0) }
 
-shared-slice-copy-out-put-setting : tie.Need-shared-slice-copy-out-put-setting invariant-loop decreases-loop
-shared-slice-copy-out-put-setting c = (the (tie.In-loop invariant-loop decreases-loop) (search)).loop-test.taken
+shared-slice-copy-out-put-setting : tie.Need-bounds-view-s invariant-loop decreases-loop
+shared-slice-copy-out-put-setting c = (the (tie.In-loop-s invariant-loop decreases-loop) (search)).loop-s-test.true
 
-put-setting-requires : tie.Need-put-setting-requires invariant-loop decreases-loop
+put-setting-requires : tie.Need-put_setting-end-requires invariant-loop decreases-loop
 put-setting-requires c κs =
-    let m : tie.In-loop invariant-loop decreases-loop = search in
+    let m : tie.In-loop-s invariant-loop decreases-loop = search in
     let s = entry m.before in
-    let b = m.before.loop.inv in
-    omega (arith, m.loop-test.taken, s.pre.0, s.pre.1, b.short, b.same)
+    let b = m.before.loop-s.invariant in
+    omega (arith, m.loop-s-test.true, s.requires.0, s.requires.1, b.short, b.same)
 
-add-s : tie.Need-overflow-add-s invariant-loop decreases-loop
+add-s : tie.Need-overflow_add-s invariant-loop decreases-loop
 add-s c =
-    let m : tie.In-loop invariant-loop decreases-loop = search in
+    let m : tie.In-loop-s invariant-loop decreases-loop = search in
     let s = entry m.before in
-    record { fits = omega (arith, m.loop-test.taken, s.pre.0) }
+    record { fits = omega (arith, m.loop-s-test.true, s.requires.0) }
 
-loop-less : tie.Need-loop-smaller invariant-loop decreases-loop
+loop-less : tie.Need-loop-s-smaller invariant-loop decreases-loop
 loop-less c =
-    let m : tie.In-loop invariant-loop decreases-loop = search in
-    omega (arith, m.loop-test.taken)
+    let m : tie.In-loop-s invariant-loop decreases-loop = search in
+    omega (arith, m.loop-s-test.true)
 
-loop-again : tie.Need-loop-preserved invariant-loop decreases-loop
+loop-again : tie.Need-loop-s-preserved invariant-loop decreases-loop
 loop-again c =
-    let m : tie.In-loop invariant-loop decreases-loop = search in
+    let m : tie.In-loop-s invariant-loop decreases-loop = search in
     let s = entry m.before in
-    let q : tie.After-put-setting invariant-loop decreases-loop = search in
-    let f : tie.After-start-value invariant-loop decreases-loop = search in
-    let a : tie.After-put-setting-arg invariant-loop decreases-loop = search in
-    let p = q.put-setting in
-    let v = f.start-value in
-    let e = setting-read m.before.loop.s s.args.view.now (sfits_of v.ok) v.ensures (sfits_of a.put-setting-arg.given) in
-    below_next m.before.loop.inv m.loop-test.taken (omega (arith, s.pre.1)) (put_as p.ensures.0 e) p.ensures.1 (omega (arith, p.kept))
+    let q : tie.After-put_setting-end invariant-loop decreases-loop = search in
+    let f : tie.After-start_value invariant-loop decreases-loop = search in
+    let a : tie.After-put_setting-arg-1 invariant-loop decreases-loop = search in
+    let p = q.put_setting-end in
+    let v = f.start_value in
+    let e = setting-read m.before.loop-s.s s.args.view.now (sfits_of v.ok) v.ensures (sfits_of a.put_setting-arg-1.given) in
+    below_next m.before.loop-s.invariant m.loop-s-test.true (omega (arith, s.requires.1)) (put_as p.ensures.put e) p.ensures.upper_bound (omega (arith, p.kept))
 
-same_length : tie.Need-same-length invariant-loop decreases-loop
-same_length c = c.before.loop.invariant.same
+same_length : tie.Need-shape_of-text invariant-loop decreases-loop
+same_length c = c.before.loop-s.invariant.same
 
 returns : tie.Need-returns invariant-loop decreases-loop
 unfolding setting_lines
 returns c =
     let l = c.before in
     let s = entry l in
-    let b = l.loop.invariant in
-    let e = ap (λ (k : ℕ). pieces_below k (setting_of s.args.view.now)) s.pre.0 in
-    (put_as (below_all b c.loop-test.false) e, omega (arith, b.short, b.within, s.pre.0))
+    let b = l.loop-s.invariant in
+    let e = ap (λ (k : ℕ). pieces_below k (setting_of s.args.view.now)) s.requires.0 in
+    (put_as (below_all b c.loop-s-test.false) e, omega (arith, b.short, b.within, s.requires.0))
 
-pub put-settings-spec : {M : Type 1} → statement M
-put-settings-spec =
+pub put_settings_spec : {M : Type 1} → statement M
+put_settings_spec =
     tie.close
     (tie.spec
     invariant-loop

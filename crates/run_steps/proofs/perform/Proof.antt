@@ -16,83 +16,83 @@ use Rattle.run_steps.proofs.perform.Statement.{statement}
 use Rattle.run_steps.proofs.perform.Tie as tie
 
 assign-requires : tie.Need-assign-requires
-assign-requires c κs = let at-e : tie.After-e = search in let start : tie.Start = search in rw at-e.e.given.1 at start.pre.1
+assign-requires c κs = let at-e : tie.In-Assign-2 = search in let start : tie.Start = search in rw at-e.e-1.given.1 at start.requires.1
 
 advance-requires : tie.Need-advance-requires
 advance-requires c κs = rw c.assign.ensures (omega arith)
 
 load-requires : tie.Need-load-requires
 load-requires c κs =
-    let at-e2 : tie.After-e2 = search in
+    let at-e2 : tie.In-Load-2 = search in
     let s : tie.Start = search in
-    (s.pre.0, rw at-e2.e2.given.1 at s.pre.1, s.pre.2)
+    (s.requires.0, rw at-e2.e-in-Load-1.given.1 at s.requires.1, s.requires.2)
 
 -- the entry, from the arm of a skip
-abbrev start : tie.After-known-told4 → tie.Start
+abbrev start : tie.In-Skip → tie.Start
 start c = search
 
 -- the distance that is passed over there
-abbrev distance : tie.After-known-told4 → ℤ
-distance c = let at-e4 : tie.After-e4 = search in at-e4.e4.given.0.0
+abbrev distance : tie.In-Skip → ℤ
+distance c = let at-e4 : tie.In-Skip-2 = search in at-e4.e-in-Skip-1.given.0.0
 
-distance-fits : (c : tie.After-known-told4) → SFits w32 (distance c)
-distance-fits c = sfits_of c.known-told4.given.0.1
+distance-fits : (c : tie.In-Skip) → SFits w32 (distance c)
+distance-fits c = sfits_of c.known_told-in-Skip-1.given.0.1
 
-within : (c : tie.After-known-told4) → is_below (distance c) (32 - (start c).args.run.place) ≡ true
+within : (c : tie.In-Skip) → is_below (distance c) (32 - (start c).args.run.place) ≡ true
 within c =
-    let at-e4 : tie.After-e4 = search in
+    let at-e4 : tie.In-Skip-2 = search in
     let s : tie.Start = search in
-    distance-below (distance c) _ 32 ∙ (rw at-e4.e4.given.1 at s.pre.1)
+    distance-below (distance c) _ 32 ∙ (rw at-e4.e-in-Skip-1.given.1 at s.requires.1)
 
-reaches : (c : tie.After-known-told4) → (start c).args.run.place + 1 + nat_abs (distance c) ≤ 32
+reaches : (c : tie.In-Skip) → (start c).args.run.place + 1 + nat_abs (distance c) ≤ 32
 reaches c = omega (arith, below-limit (distance c) (32 - (start c).args.run.place) (within c))
 
-cast-advance : tie.Need-overflow-cast-advance
+cast-advance : tie.Need-overflow_cast-n
 cast-advance c = below-cast _ _ (distance-fits c) (within c) (omega arith)
 
-advance-requires-2 : tie.Need-advance-requires-2
+advance-requires-2 : tie.Need-advance-requires-in-Skip
 advance-requires-2 c κs = rw (to_z-of_z w32 _ (distance-fits c)) (reaches c)
 
-returns : tie.Need-returns
+returns : tie.Need-returns-in-Halt
 returns c =
-    let at-enum-told : tie.After-enum-told = search in
+    let at-enum-told : tie.In-Halt = search in
     let s : tie.Start = search in
-    rw (at-enum-told.enum_told.given.1, c.stop.ensures) (halts _ _ _ s.pre.0 s.pre.2)
+    rw (at-enum-told.enum_told-1.given.1, c.stop.ensures) (halts _ _ _ s.requires.0 s.requires.2)
 
-returns-2 : tie.Need-returns-2
+returns-2 : tie.Need-returns-in-Assign
 returns-2 c =
     let at-assign : tie.After-assign = search in
-    let at-e : tie.After-e = search in
-    let k : tie.After-known-told = search in
+    let at-e : tie.In-Assign-2 = search in
+    let k : tie.In-Assign = search in
     let s : tie.Start = search in
-    rw (at-e.e.given.1, ← to_z-of_z w32 at-e.e.given.0.1.0 (sfits_of k.known-told.given.1.0.1), c.advance.ensures, at-assign.assign.ensures)
-    (assigns _ _ _ s.pre.0 s.pre.2 _ _)
+    rw (at-e.e-1.given.1, ← to_z-of_z w32 at-e.e-1.given.0.1.0 (sfits_of k.known_told-1.given.1.0.1), c.advance.ensures, at-assign.assign.ensures)
+    (assigns _ _ _ s.requires.0 s.requires.2 _ _)
 
-returns-3 : tie.Need-returns-3
+returns-3 : tie.Need-returns-in-Load
 returns-3 c =
-    let at-e2 : tie.After-e2 = search in
-    let k : tie.After-known-told2 = search in
+    let at-e2 : tie.In-Load-2 = search in
+    let k : tie.In-Load = search in
     let s : tie.Start = search in
-    rw (at-e2.e2.given.1, ← to_z-of_z w32 at-e2.e2.given.0.1.0 (sfits_of k.known-told2.given.1.0.1), ← to_z-of_z w32 _ s.fits.v)
+    rw (at-e2.e-in-Load-1.given.1, ← to_z-of_z w32 at-e2.e-in-Load-1.given.0.1.0 (sfits_of k.known_told-in-Load-1.given.1.0.1), ← to_z-of_z w32 _ s.fits.v)
     c.load.ensures
 
-returns-4 : tie.Need-returns-4
+returns-4 : tie.Need-returns-in-Store
 returns-4 c =
-    let at-e3 : tie.After-e3 = search in
-    let k : tie.After-known-told3 = search in
+    let at-e3 : tie.In-Store-2 = search in
+    let k : tie.In-Store = search in
     let s : tie.Start = search in
-    rw (at-e3.e3.given.1, ← to_z-of_z w32 at-e3.e3.given.0.0 (sfits_of k.known-told3.given.0.1), ← to_z-of_z w32 at-e3.e3.given.0.1.0 (sfits_of k.known-told3.given.1.0.1))
-    (c.store.ensures _ _ _ s.pre.2)
+    rw (at-e3.e-in-Store-1.given.1, ← to_z-of_z w32 at-e3.e-in-Store-1.given.0.0 (sfits_of k.known_told-in-Store-1.given.0.1), ← to_z-of_z w32 at-e3.e-in-Store-1.given.0.1.0 (sfits_of k.known_told-in-Store-1.given.1.0.1))
+    (c.store.ensures _ _ _ s.requires.2)
 
-returns-5 : tie.Need-returns-5
+returns-5 : tie.Need-returns-in-Skip
 returns-5 c =
-    let at-e4 : tie.After-e4 = search in
-    let k : tie.After-known-told4 = search in
+    let at-e4 : tie.In-Skip-2 = search in
+    let k : tie.In-Skip = search in
     let s : tie.Start = search in
-    rw (at-e4.e4.given.1, c.advance2.ensures, to_z-of_z w32 _ (distance-fits k)) (skips _ _ _ s.pre.0 s.pre.2 _ (reaches k))
+    rw (at-e4.e-in-Skip-1.given.1, c.advance-in-Skip.ensures, to_z-of_z w32 _ (distance-fits k)) (skips _ _ _ s.requires.0 s.requires.2 _ (reaches k))
 
-pub perform-spec : {M : Type 1} → statement M
-perform-spec =
+pub perform_spec : {M : Type 1} → statement M
+perform_spec =
     tie.close
     (tie.spec
     (λ c. search rules)

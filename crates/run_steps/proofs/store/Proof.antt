@@ -6,52 +6,52 @@ use Rattle.run_steps.proofs.Steps.{in-writes, store-to-none, store-again, store-
 use Rattle.run_steps.proofs.store.Statement.{statement}
 use Rattle.run_steps.proofs.store.Tie as tie
 
-returns : tie.Need-returns
+returns : tie.Need-returns-then-k-ge1024
 returns c =
-    let at-then1 : tie.Then1 = search in
-    let at-setting-or : tie.After-setting-or = search in
+    let at-then1 : tie.Then-k-ge1024 = search in
+    let at-setting-or : tie.After-setting_or-k = search in
     let s : tie.Start = search in
-    λ env p q z. rw (← to_z-of_z s.fits.s, c.fault.ensures) (store-to-none _ _ _ s.pre z _ _ at-setting-or.setting-or.ensures at-then1.if1.taken)
+    λ env p q z. rw (← to_z-of_z s.fits.s, c.fault.ensures) (store-to-none _ _ _ s.requires z _ _ at-setting-or.setting_or-k.ensures at-then1.if-k-ge1024.true)
 
-returns-2 : tie.Need-returns-2
+returns-2 : tie.Need-returns-then-run-eq0
 returns-2 c =
-    let at-then3 : tie.Then3 = search in
-    let at-then2 : tie.Then2 = search in
-    let at-else1 : tie.Else1 = search in
-    let at-setting-or : tie.After-setting-or = search in
-    let n : tie.After-first-place = search in
+    let at-then3 : tie.Then-run-eq0 = search in
+    let at-then2 : tie.Then-own-run = search in
+    let at-else1 : tie.Else-k-ge1024 = search in
+    let at-setting-or : tie.After-setting_or-k = search in
+    let n : tie.After-first_place-own = search in
     let s : tie.Start = search in
-    λ env p q z. rw (← to_z-of_z s.fits.s, c.fault2.ensures)
-    (store-again _ _ _ s.pre z _ _ at-setting-or.setting-or.ensures at-else1.if1.left at-then3.if3.taken
-    ((in-writes s.pre z (n.first-place.ensures z.targets)).is-named at-then2.if2.taken))
+    λ env p q z. rw (← to_z-of_z s.fits.s, c.fault-then-run-eq0.ensures)
+    (store-again _ _ _ s.requires z _ _ at-setting-or.setting_or-k.ensures at-else1.if-k-ge1024.false at-then3.if-run-eq0.true
+    ((in-writes s.requires z (n.first_place-own.ensures z.targets)).is-named at-then2.if-own-run.true))
 
-returns-3 : tie.Need-returns-3
+returns-3 : tie.Need-returns-then-own-run
 returns-3 c =
-    let at-else3 : tie.Else3 = search in
-    let at-else1 : tie.Else1 = search in
-    let at-setting-or : tie.After-setting-or = search in
-    let w : tie.Then2 = search in
-    let n : tie.After-first-place = search in
+    let at-else3 : tie.Else-run-eq0 = search in
+    let at-else1 : tie.Else-k-ge1024 = search in
+    let at-setting-or : tie.After-setting_or-k = search in
+    let w : tie.Then-own-run = search in
+    let n : tie.After-first_place-own = search in
     let s : tie.Start = search in
     λ env p q z.
-    let own = in-writes s.pre z (n.first-place.ensures z.targets) in
+    let own = in-writes s.requires z (n.first_place-own.ensures z.targets) in
     rw (← to_z-of_z s.fits.s, to_z-of_z s.fits.v, c.advance.ensures)
-    (store-over _ _ _ s.pre z _ _ at-setting-or.setting-or.ensures _ at-else1.if1.left at-else3.if3.left (own.is-named w.if2.taken) (own.replaced _ w.if2.taken))
+    (store-over _ _ _ s.requires z _ _ at-setting-or.setting_or-k.ensures _ at-else1.if-k-ge1024.false at-else3.if-run-eq0.false (own.is-named w.if-own-run.true) (own.replaced _ w.if-own-run.true))
 
 advance-requires-2 : tie.Need-advance-requires-2
-advance-requires-2 c κs = rw c.enter-write.ensures.0 (omega arith)
+advance-requires-2 c κs = rw c.enter_write.ensures.0 (omega arith)
 
-returns-4 : tie.Need-returns-4
+returns-4 : tie.Need-returns
 returns-4 c =
-    let at-else2 : tie.Else2 = search in
-    let at-else1 : tie.Else1 = search in
-    let at-setting-or : tie.After-setting-or = search in
-    let e : tie.After-enter-write = search in
-    let n : tie.After-first-place = search in
+    let at-else2 : tie.Else-own-run = search in
+    let at-else1 : tie.Else-k-ge1024 = search in
+    let at-setting-or : tie.After-setting_or-k = search in
+    let e : tie.After-enter_write = search in
+    let n : tie.After-first_place-own = search in
     let s : tie.Start = search in
-    λ env p q z. rw (← to_z-of_z s.fits.s, ← to_z-of_z s.fits.v, c.advance2.ensures, e.enter-write.ensures.0, e.enter-write.ensures.1, e.enter-write.ensures.2)
-    (store-first _ _ _ s.pre z _ _ at-setting-or.setting-or.ensures at-else1.if1.left
-    ((in-writes s.pre z (n.first-place.ensures z.targets)).not_named at-else2.if2.left))
+    λ env p q z. rw (← to_z-of_z s.fits.s, ← to_z-of_z s.fits.v, c.advance-2.ensures, e.enter_write.ensures.0, e.enter_write.ensures.1, e.enter_write.ensures.2)
+    (store-first _ _ _ s.requires z _ _ at-setting-or.setting_or-k.ensures at-else1.if-k-ge1024.false
+    ((in-writes s.requires z (n.first_place-own.ensures z.targets)).not_named at-else2.if-own-run.false))
 
 pub store_spec : {M : Type 1} → statement M
 store_spec =

@@ -7,15 +7,15 @@ use Rattle.values.proofs.Known.{looked-none}
 use Rattle.runs.proofs.wanted_value.Statement.{statement}
 use Rattle.runs.proofs.wanted_value.Tie as tie
 
-returns : tie.Need-returns
+returns : tie.Need-returns-then-s-lt1024
 returns c =
-    let taken : tie.Then1 = search in
+    let taken : tie.Then-s-lt1024 = search in
     let v = c.value_of_lem in
-    (to_z-of_z (sfits_of v.type-inv) ∙ v.ensures.0 ∙ rw (lt-ltb _ 1024 taken.if1.taken), v.ensures.2)
+    (to_z-of_z (sfits_of v.type-inv) ∙ v.ensures.0 ∙ rw (lt-ltb _ 1024 taken.if-s-lt1024.true), v.ensures.2)
 
-returns-2 : tie.Need-returns-2
-returns-2 c = let start : tie.Start = search in (rw (le-ltb _ 1024 c.if1.false), looked-none start.pre.right)
+returns-2 : tie.Need-returns
+returns-2 c = let start : tie.Start = search in (rw (le-ltb _ 1024 c.if-s-lt1024.false), looked-none start.requires.right)
 
-pub wanted-value-spec : {M : Type 1} → statement M
-wanted-value-spec =
-    tie.close (tie.spec (λ c. search rules) (λ c κs. let start : tie.Start = search in (search rules, start.pre)) returns returns-2)
+pub wanted_value_spec : {M : Type 1} → statement M
+wanted_value_spec =
+    tie.close (tie.spec (λ c. search rules) (λ c κs. let start : tie.Start = search in (search rules, start.requires)) returns returns-2)

@@ -4,11 +4,11 @@ use borrow.Author.Rules.{rules}
 use Rattle.search.proofs.position.Statement.{statement}
 use Rattle.search.proofs.position.Tie as tie
 
-returns : tie.Need-returns
-returns c = let ranked : tie.After-rank = search in rw (← ranked.rank.ensures, sym c.before.stamped-at.ensures ∙ c.if1.true)
+returns : tie.Need-returns-then-stamped_at
+returns c = let ranked : tie.After-rank-k = search in rw (← ranked.rank-k.ensures, sym c.before.stamped_at.ensures ∙ c.if-stamped_at.true)
 
-returns-2 : tie.Need-returns-2
-returns-2 c = let ranked : tie.After-rank = search in rw (← ranked.rank.ensures, sym c.before.stamped-at.ensures ∙ c.if1.false)
+returns-2 : tie.Need-returns
+returns-2 c = let ranked : tie.After-rank-k = search in rw (← ranked.rank-k.ensures, sym c.before.stamped_at.ensures ∙ c.if-stamped_at.false)
 
-pub position-spec : {M : Type 1} → statement M
-position-spec = tie.close (tie.spec (λ c κs. search rules) (λ c κs. search rules) returns returns-2)
+pub position_spec : {M : Type 1} → statement M
+position_spec = tie.close (tie.spec (λ c κs. search rules) (λ c κs. search rules) returns returns-2)

@@ -8,37 +8,37 @@ use Rattle.search.proofs.Steps.{rank-here, rank-lower}
 use Rattle.search.proofs.rank.Statement.{statement}
 use Rattle.search.proofs.rank.Tie as tie
 
-abbrev invariant-loop : tie.invariant-loop
+abbrev invariant-loop : tie.invariant-loop-k
 invariant-loop t count order timestamps k₀ k = (k ≤ count) × (rank_of order timestamps t k ≡ rank_of order timestamps t count)
 
-abbrev decreases-loop : tie.decreases-loop
+abbrev decreases-loop : tie.decreases-loop-k
 decreases-loop t count order timestamps k₀ k = k
 
-abbrev entry : tie.At-loop invariant-loop decreases-loop → tie.Start invariant-loop decreases-loop
+abbrev entry : tie.At-loop-k invariant-loop decreases-loop → tie.Start invariant-loop decreases-loop
 entry l = search
 
-returns : tie.Need-returns invariant-loop decreases-loop
+returns : tie.Need-returns-then-timestamps-place invariant-loop decreases-loop
 returns c =
-    let at-loop : tie.At-loop invariant-loop decreases-loop = search in
+    let at-loop : tie.At-loop-k invariant-loop decreases-loop = search in
     let start : tie.Start invariant-loop decreases-loop = search in
-    let l = at-loop.loop in
-    rank-here _ _ start.args.t l.k (omega arith) c.if1.true ∙ l.inv.1
+    let l = at-loop.loop-k in
+    rank-here _ _ start.args.t l.k (omega arith) c.if-timestamps-place.true ∙ l.invariant.1
 
-loop-again : tie.Need-loop-preserved invariant-loop decreases-loop
+loop-again : tie.Need-loop-k-preserved invariant-loop decreases-loop
 loop-again c =
-    let at-loop : tie.At-loop invariant-loop decreases-loop = search in
-    let l = at-loop.loop in
-    (omega arith, rank-lower _ _ _ l.k (omega arith) (omega arith) ∙ l.inv.1)
+    let at-loop : tie.At-loop-k invariant-loop decreases-loop = search in
+    let l = at-loop.loop-k in
+    (omega arith, rank-lower _ _ _ l.k (omega arith) (omega arith) ∙ l.invariant.1)
 
-returns-2 : tie.Need-returns-2 invariant-loop decreases-loop
+returns-2 : tie.Need-returns invariant-loop decreases-loop
 unfolding rank_of
 returns-2 c =
-    let at-loop : tie.At-loop invariant-loop decreases-loop = search in
-    let e : c.before.loop.k ≡ 0 = omega arith in
-    rw e at at-loop.loop.inv.1
+    let at-loop : tie.At-loop-k invariant-loop decreases-loop = search in
+    let e : c.before.loop-k.k ≡ 0 = omega arith in
+    rw e at at-loop.loop-k.invariant.1
 
-pub rank-spec : {M : Type 1} → statement M
-rank-spec =
+pub rank_spec : {M : Type 1} → statement M
+rank_spec =
     tie.close
     (tie.spec
     invariant-loop
@@ -47,9 +47,9 @@ rank-spec =
     (λ c. search rules)
     (λ c. search rules)
     (λ c. search rules)
-    (λ c. let at-loop : tie.At-loop invariant-loop decreases-loop = search in omega (arith, c.shared-slice-known.given (at-loop.loop.k - 1)))
-    (λ c. let at-loop : tie.At-loop invariant-loop decreases-loop = search in omega (arith, c.shared-slice-known.given (at-loop.loop.k - 1)))
-    (λ c. let l : tie.At-loop invariant-loop decreases-loop = search in (entry l).pre.below (l.loop.k - 1) (omega arith))
+    (λ c. let at-loop : tie.At-loop-k invariant-loop decreases-loop = search in omega (arith, c.shared_slice_known-1.given (at-loop.loop-k.k - 1)))
+    (λ c. let at-loop : tie.At-loop-k invariant-loop decreases-loop = search in omega (arith, c.shared_slice_known-1.given (at-loop.loop-k.k - 1)))
+    (λ c. let l : tie.At-loop-k invariant-loop decreases-loop = search in (entry l).requires.below (l.loop-k.k - 1) (omega arith))
     returns
     (λ c. search rules)
     (λ c. search rules)

@@ -12,30 +12,30 @@ use Rattle.machine.proofs.Form.{below_all, not_all_below}
 use Rattle.search_exports.proofs.each_below.Statement.{statement}
 use Rattle.search_exports.proofs.each_below.Tie as tie
 
-abbrev invariant-loop : tie.invariant-loop
+abbrev invariant-loop : tie.invariant-loop-i
 invariant-loop limit list i₀ i = (i ≤ length list) × ((j : ℕ) → j < i → ltb (get_or list j 0) limit ≡ true)
 
-abbrev decreases-loop : tie.decreases-loop
+abbrev decreases-loop : tie.decreases-loop-i
 decreases-loop limit list i₀ i = length list - i
 
-returns : tie.Need-returns invariant-loop decreases-loop
+returns : tie.Need-returns-then-limit-list invariant-loop decreases-loop
 returns c =
-    let at-loop : tie.At-loop invariant-loop decreases-loop = search in
-    sym (not_all_below _ _ at-loop.loop.i (omega arith) (le-ltb _ _ c.if1.true))
+    let at-loop : tie.At-loop-i invariant-loop decreases-loop = search in
+    sym (not_all_below _ _ at-loop.loop-i.i (omega arith) (le-ltb _ _ c.if-limit-list.true))
 
-loop-again : tie.Need-loop-preserved invariant-loop decreases-loop
+loop-again : tie.Need-loop-i-preserved invariant-loop decreases-loop
 loop-again c =
-    let at-loop : tie.At-loop invariant-loop decreases-loop = search in
-    let l = at-loop.loop in
-    (omega arith, below_more _ l.i l.inv.1 (lt-ltb _ _ c.if1.false))
+    let at-loop : tie.At-loop-i invariant-loop decreases-loop = search in
+    let l = at-loop.loop-i in
+    (omega arith, below_more _ l.i l.invariant.1 (lt-ltb _ _ c.if-limit-list.false))
 
-returns-2 : tie.Need-returns-2 invariant-loop decreases-loop
+returns-2 : tie.Need-returns invariant-loop decreases-loop
 returns-2 c =
-    let at-loop : tie.At-loop invariant-loop decreases-loop = search in
-    let l = at-loop.loop in sym (below_all _ _ (λ j h. l.inv.1 j (omega arith)))
+    let at-loop : tie.At-loop-i invariant-loop decreases-loop = search in
+    let l = at-loop.loop-i in sym (below_all _ _ (λ j h. l.invariant.1 j (omega arith)))
 
-pub each-below-spec : {M : Type 1} → statement M
-each-below-spec =
+pub each_below_spec : {M : Type 1} → statement M
+each_below_spec =
     tie.close
     (tie.spec
     invariant-loop
@@ -43,7 +43,7 @@ each-below-spec =
     (λ c. (omega arith, λ j h. absurd (omega arith)))
     (λ c. search rules)
     (λ c. search rules)
-    (λ c. let at-loop : tie.At-loop invariant-loop decreases-loop = search in omega (arith, c.shared-slice-known.given at-loop.loop.i))
+    (λ c. let at-loop : tie.At-loop-i invariant-loop decreases-loop = search in omega (arith, c.shared_slice_known-1.given at-loop.loop-i.i))
     returns
     (λ c. search rules)
     (λ c. search rules)

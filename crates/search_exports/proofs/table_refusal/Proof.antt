@@ -17,42 +17,42 @@ few s = let a = s.args in refusals.few a.position a.order.now a.writes.now (leng
 abbrev sized : tie.Start → Bool
 sized s = let a = s.args in refusals.sized a.position a.order.now a.writes.now (length a.targets.now) (length a.written.now)
 
-abbrev entry : tie.Else1 → tie.Start
+abbrev entry : tie.Else-not-places-position → tie.Start
 entry c = search
 
-passed-few : (c : tie.Else1) → few (entry c) ≡ true
-passed-few c = not-false (few (entry c)) c.if1.false
+passed-few : (c : tie.Else-not-places-position) → few (entry c) ≡ true
+passed-few c = not-false (few (entry c)) c.if-not-places-position.false
 
-passed-sized : (c : tie.Else2) → sized (entry c.before) ≡ true
-passed-sized c = not-false (sized (entry c.before)) c.if2.false
+passed-sized : (c : tie.Else-not-targets-slots) → sized (entry c.before) ≡ true
+passed-sized c = not-false (sized (entry c.before)) c.if-not-targets-slots.false
 
-returns : tie.Need-returns
-returns c = refusals.refused-many _ _ _ _ _ (not-true (few (search)) c.if1.true)
+returns : tie.Need-returns-then-not-places-position
+returns c = refusals.refused-many _ _ _ _ _ (not-true (few (search)) c.if-not-places-position.true)
 
-returns-2 : tie.Need-returns-2
-returns-2 c = refusals.refused-sizes _ _ _ _ _ (passed-few c.before) (not-true (sized (search)) c.if2.true)
+returns-2 : tie.Need-returns-then-not-targets-slots
+returns-2 c = refusals.refused-sizes _ _ _ _ _ (passed-few c.before) (not-true (sized (search)) c.if-not-targets-slots.true)
 
-returns-3 : tie.Need-returns-3
+returns-3 : tie.Need-returns-then-not-each_below
 returns-3 c =
-    let at-each-below : tie.After-each-below = search in
-    let e : tie.Else2 = search in
-    refusals.refused-contents _ _ _ _ _ (passed-few e.before) (passed-sized e) at-each-below.each_below.ensures c.before.each-below2.ensures (not-true (at-each-below.each_below.result && c.before.each-below2.result) c.if3.true)
+    let at-each-below : tie.After-each_below = search in
+    let e : tie.Else-not-targets-slots = search in
+    refusals.refused-contents _ _ _ _ _ (passed-few e.before) (passed-sized e) at-each-below.each_below.ensures c.before.each_below-2.ensures (not-true (at-each-below.each_below.result && c.before.each_below-2.result) c.if-not-each_below.true)
 
-returns-4 : tie.Need-returns-4
+returns-4 : tie.Need-returns
 returns-4 c =
-    let at-each-below : tie.After-each-below = search in
-    let e : tie.Else2 = search in
-    refusals.passed _ _ _ _ _ (passed-few e.before) (passed-sized e) at-each-below.each_below.ensures c.before.each-below2.ensures (not-false (at-each-below.each_below.result && c.before.each-below2.result) c.if3.false)
+    let at-each-below : tie.After-each_below = search in
+    let e : tie.Else-not-targets-slots = search in
+    refusals.passed _ _ _ _ _ (passed-few e.before) (passed-sized e) at-each-below.each_below.ensures c.before.each_below-2.ensures (not-false (at-each-below.each_below.result && c.before.each_below-2.result) c.if-not-each_below.false)
 
-part-each-below-end : tie.Need-slice-bounds-each-below-end
+part-each-below-end : tie.Need-slice_bounds-each_below-end
 part-each-below-end c =
     let start : tie.Start = search in
     let a = start.args in
     let h = leb-true a.position (length a.order.now) (both (leb (length a.writes.now) 4096) (passed-few c.before)).1 in
     omega (arith, h)
 
-pub table-refusal-spec : {M : Type 1} → statement M
-table-refusal-spec =
+pub table_refusal_spec : {M : Type 1} → statement M
+table_refusal_spec =
     tie.close
     (tie.spec
     returns

@@ -14,74 +14,74 @@ use Rattle.setup.proofs.set_up.Tie as tie
 abbrev lent : tie.Start → Tables
 lent s =
     let a = s.args in
-    tables a.held.now a.timestamps.now a.order.now a.status.now a.withdrawn.now a.lengths.now a.programs.now a.reads.now a.writes.now a.sources.now a.seen.now a.targets.now a.written.now a.view.now a.versions.now a.cutoff.now a.kept.now
+    tables a.held-1.now a.timestamps-1.now a.order-1.now a.status-1.now a.withdrawn-1.now a.lengths-1.now a.programs-1.now a.reads-1.now a.writes-1.now a.sources-1.now a.seen-1.now a.targets-1.now a.written-1.now a.view-1.now a.versions-1.now a.cutoff-1.now a.kept-1.now
 
-abbrev entry : tie.After-lengths-fit → tie.Start
+abbrev entry : tie.After-lengths_fit → tie.Start
 entry c = search
 
-returns : tie.Need-returns
-returns c = set-up-refused _ (lent (entry c.before)) (sym c.before.lengths-fit.ensures ∙ not-true _ c.if1.true)
+returns : tie.Need-returns-then-not-lengths_fit
+returns c = set-up-refused _ (lent (entry c.before)) (sym c.before.lengths_fit.ensures ∙ not-true _ c.if-not-lengths_fit.true)
 
-right : (c : tie.Else1) → lengths_fit (entry c.before).args.n (lent (entry c.before)) ≡ true
-right c = sym c.before.lengths-fit.ensures ∙ not-false _ c.if1.false
+right : (c : tie.Else-not-lengths_fit) → lengths_fit (entry c.before).args.n (lent (entry c.before)) ≡ true
+right c = sym c.before.lengths_fit.ensures ∙ not-false _ c.if-not-lengths_fit.false
 
 -- ---- the places of the code, from each the one before
 
-abbrev tested : tie.After-clear-changes → tie.Else1
+abbrev tested : tie.After-clear_changes → tie.Else-not-lengths_fit
 tested c = search
 
-abbrev changes : tie.After-clear-lists → tie.After-clear-changes
+abbrev changes : tie.After-clear_lists → tie.After-clear_changes
 changes c = search
 
-abbrev lists : tie.After-fill-start → tie.After-clear-lists
+abbrev lists : tie.After-fill_start → tie.After-clear_lists
 lists c = search
 
-abbrev view : tie.After-fill-start2 → tie.After-fill-start
+abbrev view : tie.After-fill_start-2 → tie.After-fill_start
 view c = search
 
 -- ---- needs
 
-fill-start-requires : tie.Need-fill-start-requires
+fill-start-requires : tie.Need-fill_start-requires
 fill-start-requires c κs =
-    let l : tie.After-clear-lists = search in
-    (lengths-of _ _ (right (tested (changes l)))).view
+    let l : tie.After-clear_lists = search in
+    (lengths-of _ _ (right (tested (changes l)))).view-1
 
-fill-start-requires-2 : tie.Need-fill-start-requires-2
+fill-start-requires-2 : tie.Need-fill_start-requires-2
 fill-start-requires-2 c κs =
-    let v : tie.After-fill-start = search in
-    (lengths-of _ _ (right (tested (changes (lists v))))).kept
+    let v : tie.After-fill_start = search in
+    (lengths-of _ _ (right (tested (changes (lists v))))).kept-1
 
-returns-2 : tie.Need-returns-2
+returns-2 : tie.Need-returns
 returns-2 c =
-    let k : tie.After-fill-start2 = search in
+    let k : tie.After-fill_start-2 = search in
     let v = view k in
     let l = lists v in
     let s = changes l in
-    let a = s.clear-changes.ensures in
-    let b = l.clear-lists.ensures in
+    let a = s.clear_changes.ensures in
+    let b = l.clear_lists.ensures in
     all-cleared _ _ (right (tested s))
     (record {
-      held = a.held;
-      timestamps = a.timestamps;
-      order = a.order;
-      status = a.status;
-      withdrawn = a.withdrawn;
-      lengths = a.lengths;
-      programs = a.programs;
-      reads = b.reads;
-      writes = b.writes;
-      sources = b.sources;
-      seen = b.seen;
-      targets = b.targets;
-      written = b.written;
+      held = a.held-1;
+      timestamps = a.timestamps-1;
+      order = a.order-1;
+      status = a.status-1;
+      withdrawn = a.withdrawn-1;
+      lengths = a.lengths-1;
+      programs = a.programs-1;
+      reads = b.reads-1;
+      writes = b.writes-1;
+      sources = b.sources-1;
+      seen = b.seen-1;
+      targets = b.targets-1;
+      written = b.written-1;
       view = v.fill_start.ensures;
-      versions = a.versions;
-      cutoff = a.cutoff;
-      kept = k.fill-start2.ensures;
+      versions = a.versions-1;
+      cutoff = a.cutoff-1;
+      kept = k.fill_start-2.ensures;
     })
 
-pub set-up-spec : {M : Type 1} → statement M
-set-up-spec =
+pub set_up_spec : {M : Type 1} → statement M
+set_up_spec =
     tie.close
     (tie.spec
     (λ c κs. tt)
@@ -107,21 +107,21 @@ set-up-spec =
     (λ c κs. tt)
     fill-start-requires
     fill-start-requires-2
-    (λ c. omega (arith, (changes (lists (view (search)))).clear-changes.auto))
-    (λ c. omega (arith, (changes (lists (view (search)))).clear-changes.auto))
-    (λ c. omega (arith, (changes (lists (view (search)))).clear-changes.auto))
-    (λ c. omega (arith, (changes (lists (view (search)))).clear-changes.auto))
-    (λ c. omega (arith, (changes (lists (view (search)))).clear-changes.auto))
-    (λ c. omega (arith, (changes (lists (view (search)))).clear-changes.auto))
-    (λ c. omega (arith, (changes (lists (view (search)))).clear-changes.auto))
-    (λ c. omega (arith, (lists (view (search))).clear-lists.auto))
-    (λ c. omega (arith, (lists (view (search))).clear-lists.auto))
-    (λ c. omega (arith, (lists (view (search))).clear-lists.auto))
-    (λ c. omega (arith, (lists (view (search))).clear-lists.auto))
-    (λ c. omega (arith, (lists (view (search))).clear-lists.auto))
-    (λ c. omega (arith, (lists (view (search))).clear-lists.auto))
+    (λ c. omega (arith, (changes (lists (view (search)))).clear_changes.auto))
+    (λ c. omega (arith, (changes (lists (view (search)))).clear_changes.auto))
+    (λ c. omega (arith, (changes (lists (view (search)))).clear_changes.auto))
+    (λ c. omega (arith, (changes (lists (view (search)))).clear_changes.auto))
+    (λ c. omega (arith, (changes (lists (view (search)))).clear_changes.auto))
+    (λ c. omega (arith, (changes (lists (view (search)))).clear_changes.auto))
+    (λ c. omega (arith, (changes (lists (view (search)))).clear_changes.auto))
+    (λ c. omega (arith, (lists (view (search))).clear_lists.auto))
+    (λ c. omega (arith, (lists (view (search))).clear_lists.auto))
+    (λ c. omega (arith, (lists (view (search))).clear_lists.auto))
+    (λ c. omega (arith, (lists (view (search))).clear_lists.auto))
+    (λ c. omega (arith, (lists (view (search))).clear_lists.auto))
+    (λ c. omega (arith, (lists (view (search))).clear_lists.auto))
     (λ c. omega (arith, (view (search)).fill_start.auto))
-    (λ c. omega (arith, (changes (lists (view (search)))).clear-changes.auto))
-    (λ c. omega (arith, (changes (lists (view (search)))).clear-changes.auto))
-    (λ c. omega (arith, (the tie.After-fill-start2 (search)).fill-start2.kept))
+    (λ c. omega (arith, (changes (lists (view (search)))).clear_changes.auto))
+    (λ c. omega (arith, (changes (lists (view (search)))).clear_changes.auto))
+    (λ c. omega (arith, (the tie.After-fill_start-2 (search)).fill_start-2.kept-1))
     returns-2)

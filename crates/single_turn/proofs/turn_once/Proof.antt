@@ -16,43 +16,43 @@ before-waiting c = search
 waiting-requires : tie.Need-waiting-requires
 waiting-requires c κs =
     let start : tie.Start = search in
-    placed-status start.pre.so
+    placed-status start.requires.so
 
-turn-at-requires : tie.Need-turn-at-requires
+turn-at-requires : tie.Need-turn_at-requires
 turn-at-requires c κs =
-    let found : tie.After-k = search in
+    let found : tie.In-At-2 = search in
     let at-waiting : tie.After-waiting = search in
     let start = before-waiting at-waiting in
-    record { others = start.pre.others; so = turn-single start.pre.so (found_at _ at-waiting.waiting.ensures found.k.given.1) }
+    record { others = start.requires.others; so = turn-single start.requires.so (found_at _ at-waiting.waiting.ensures found.k-1.given.1) }
 
-returns : tie.Need-returns
+returns : tie.Need-returns-in-At
 returns c T g =
-    let at-turn-at : tie.After-turn-at = search in
-    let found : tie.After-k = search in
+    let at-turn-at : tie.After-turn_at = search in
+    let found : tie.In-At-2 = search in
     let at-waiting : tie.After-waiting = search in
-    (at-turn-at.turn_at.ensures T (turn-single g (found_at _ at-waiting.waiting.ensures found.k.given.1))).0
+    (at-turn-at.turn_at.ensures T (turn-single g (found_at _ at-waiting.waiting.ensures found.k-1.given.1))).0
 
-returns-2 : tie.Need-returns-2
+returns-2 : tie.Need-returns-in-Nothing
 returns-2 c T g =
     let at-waiting : tie.After-waiting = search in
-    turn-idle g (found_nothing _ at-waiting.waiting.ensures c.enum_told.given.1)
+    turn-idle g (found_nothing _ at-waiting.waiting.ensures c.enum_told-1.given.1)
 
-pub turn-once-spec : {M : Type 1} → statement M
-turn-once-spec =
+pub turn_once_spec : {M : Type 1} → statement M
+turn_once_spec =
     tie.close
     (tie.spec
     waiting-requires
     (λ c. search rules)
     turn-at-requires
     (λ c. search rules)
-    (λ c. omega (arith, (the tie.After-turn-at (search)).turn_at.kept))
-    (λ c. omega (arith, (the tie.After-turn-at (search)).turn_at.kept))
-    (λ c. omega (arith, (the tie.After-turn-at (search)).turn_at.kept))
-    (λ c. omega (arith, (the tie.After-turn-at (search)).turn_at.kept))
-    (λ c. omega (arith, (the tie.After-turn-at (search)).turn_at.kept))
-    (λ c. omega (arith, (the tie.After-turn-at (search)).turn_at.kept))
-    (λ c. omega (arith, (the tie.After-turn-at (search)).turn_at.kept))
-    (λ c. omega (arith, (the tie.After-turn-at (search)).turn_at.kept))
+    (λ c. omega (arith, (the tie.After-turn_at (search)).turn_at.kept))
+    (λ c. omega (arith, (the tie.After-turn_at (search)).turn_at.kept))
+    (λ c. omega (arith, (the tie.After-turn_at (search)).turn_at.kept))
+    (λ c. omega (arith, (the tie.After-turn_at (search)).turn_at.kept))
+    (λ c. omega (arith, (the tie.After-turn_at (search)).turn_at.kept))
+    (λ c. omega (arith, (the tie.After-turn_at (search)).turn_at.kept))
+    (λ c. omega (arith, (the tie.After-turn_at (search)).turn_at.kept))
+    (λ c. omega (arith, (the tie.After-turn_at (search)).turn_at.kept))
     returns
     (λ c. refl)
     returns-2)

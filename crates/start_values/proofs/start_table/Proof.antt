@@ -8,5 +8,5 @@ returns : tie.Need-returns
 unfolding start_table
 returns c = refl
 
-pub start-table-spec : {M : Type 1} → statement M
-start-table-spec = tie.close (tie.spec returns)
+pub start_table_spec : {M : Type 1} → statement M
+start_table_spec = tie.close (tie.spec returns)

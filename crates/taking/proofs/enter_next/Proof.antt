@@ -10,34 +10,34 @@ use Rattle.general.proofs.Places.{the}
 use Rattle.taking.proofs.enter_next.Statement.{statement}
 use Rattle.taking.proofs.enter_next.Tie as tie
 
-abbrev invariant-loop : tie.invariant-loop
+abbrev invariant-loop : tie.invariant-loop-k
 invariant-loop position count order₀ k₀ order k =
     (position ≤ k) × (k ≤ count) × (length order ≡ length order₀) × (order ≡ moved k count order₀)
 
-abbrev decreases-loop : tie.decreases-loop
+abbrev decreases-loop : tie.decreases-loop-k
 decreases-loop position count order₀ k₀ order k = k
 
-loop-again : tie.Need-loop-preserved invariant-loop decreases-loop
+loop-again : tie.Need-loop-k-preserved invariant-loop decreases-loop
 loop-again c =
     let a = (the (tie.Start invariant-loop decreases-loop) (search)).args in
-    let l = (the (tie.At-loop invariant-loop decreases-loop) (search)).loop in (
+    let l = (the (tie.At-loop-k invariant-loop decreases-loop) (search)).loop-k in (
       omega arith,
       omega arith,
-      simp length-set l.inv.2,
-      ap (λ (o : List ℕ). set o l.k (get_or o (l.k - 1) 0)) l.inv.3
+      simp length-set l.invariant.2,
+      ap (λ (o : List ℕ). set o l.k (get_or o (l.k - 1) 0)) l.invariant.3
           ∙ one-moved a.count a.order.now (omega arith) l.k (omega arith) (omega arith),
     )
 
 returns : tie.Need-returns invariant-loop decreases-loop
 returns c =
     let a = (the (tie.Start invariant-loop decreases-loop) (search)).args in
-    let l = (the (tie.At-loop invariant-loop decreases-loop) (search)).loop in
+    let l = (the (tie.At-loop-k invariant-loop decreases-loop) (search)).loop-k in
     let e : l.k ≡ a.position = omega arith in
-    ap (λ (o : List ℕ). set o a.position a.count) (l.inv.3 ∙ ap (λ (j : ℕ). moved j a.count a.order.now) e)
+    ap (λ (o : List ℕ). set o a.position a.count) (l.invariant.3 ∙ ap (λ (j : ℕ). moved j a.count a.order.now) e)
     ∙ entry-over a.position a.count a.order.now _ (omega arith)
 
-pub enter-next-spec : {M : Type 1} → statement M
-enter-next-spec =
+pub enter_next_spec : {M : Type 1} → statement M
+enter_next_spec =
     tie.close
     (tie.spec
     invariant-loop
@@ -54,5 +54,5 @@ enter-next-spec =
     (λ c. search rules)
     (λ c. search rules)
     (λ c. search rules)
-    (λ c. let at-loop : tie.At-loop invariant-loop decreases-loop = search in simp length-set at-loop.loop.inv.2)
+    (λ c. let at-loop : tie.At-loop-k invariant-loop decreases-loop = search in simp length-set at-loop.loop-k.invariant.2)
     returns)

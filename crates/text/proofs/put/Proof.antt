@@ -24,7 +24,7 @@ add-result : tie.Need-overflow-add-result
 add-result c = search rules
 
 -- src/lib.rt:9:1
-same_length : tie.Need-same-length
+same_length : tie.Need-shape_of-text
 same_length c = search rules
 
 -- src/lib.rt:9:1

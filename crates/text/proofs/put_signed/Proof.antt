@@ -8,26 +8,26 @@ use Rattle.general.proofs.Places.{the}
 use Rattle.text.proofs.put_signed.Statement.{statement}
 use Rattle.text.proofs.put_signed.Tie as tie
 
-returns : tie.Need-returns
+returns : tie.Need-returns-then-is_negative
 returns c =
-    let d : tie.After-put-number = search in
-    let m : tie.After-put = search in
-    let t : tie.Then1 = search in
+    let d : tie.After-put_number = search in
+    let m : tie.After-put-end = search in
+    let t : tie.Then-is_negative = search in
     let s : tie.Start = search in
-    let e = digits-of-negative s.fits.number (the tie.After-pattern (search)).pattern.ensures t.before.is_negative.ensures t.if1.taken in
-    let w = put_then m.put.ensures (omega (arith, s.pre)) d.put-number.ensures.0 in
-    (put_as w (sym e), omega (arith, m.put.ensures.ends, d.put-number.ensures.1))
+    let e = digits-of-negative s.fits.number (the tie.After-pattern-low (search)).pattern-low.ensures t.before.is_negative.ensures t.if-is_negative.true in
+    let w = put_then m.put-end.ensures (omega (arith, s.requires)) d.put_number.ensures.put in
+    (put_as w (sym e), omega (arith, m.put-end.ensures.ends, d.put_number.ensures.upper_bound))
 
-returns-2 : tie.Need-returns-2
+returns-2 : tie.Need-returns
 returns-2 c =
-    let d : tie.After-put-number2 = search in
-    let t : tie.Else1 = search in
+    let d : tie.After-put_number-2 = search in
+    let t : tie.Else-is_negative = search in
     let s : tie.Start = search in
-    let e = digits-of-other s.fits.number (the tie.After-pattern (search)).pattern.ensures t.before.is_negative.ensures t.if1.left in
-    (put_as d.put-number2.ensures.0 (sym e), omega (arith, d.put-number2.ensures.1))
+    let e = digits-of-other s.fits.number (the tie.After-pattern-low (search)).pattern-low.ensures t.before.is_negative.ensures t.if-is_negative.false in
+    (put_as d.put_number-2.ensures.put (sym e), omega (arith, d.put_number-2.ensures.upper_bound))
 
-pub put-signed-spec : {M : Type 1} → statement M
-put-signed-spec =
+pub put_signed_spec : {M : Type 1} → statement M
+put_signed_spec =
     tie.close
     (tie.spec
     (λ c κs. search rules)

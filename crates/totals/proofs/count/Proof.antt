@@ -9,10 +9,10 @@ use Rattle.totals.proofs.count.Tie as tie
 few-more : {x k : ℕ} → x ≤ 4096 → k ≤ 4096 → x + k < 2 ^ 16
 few-more h b = omega arith
 
-add-totals : tie.Need-overflow-add-totals
+add-totals : tie.Need-overflow_add-totals
 add-totals c =
     let start : tie.Start = search in
-    record { fits = few-more (start.pre.1.small _ (omega (arith, start.pre.0))) (omega arith) }
+    record { fits = few-more (start.requires.1.small _ (omega (arith, start.requires.0))) (omega arith) }
 
 pub count_spec : {M : Type 1} → statement M
 count_spec =

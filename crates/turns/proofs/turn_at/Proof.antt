@@ -9,88 +9,88 @@ use Rattle.turns.proofs.turn_at.Statement.{statement}
 use Rattle.turns.proofs.turn_at.Tie as tie
 
 -- from a call, or the loop, to what stood before it
-abbrev before-decide : tie.After-decide → tie.Start
+abbrev before-decide : tie.After-decide-act → tie.Start
 before-decide c = search
 
-abbrev before_stands : tie.After-stands → tie.After-decide
+abbrev before_stands : tie.After-stands → tie.After-decide-act
 before_stands c = search
 
-abbrev before-moving : tie.Else1 → tie.After-stands
+abbrev before-moving : tie.Else-stands → tie.After-stands
 before-moving c = search
 
-abbrev before-note-uses : tie.After-note-uses → tie.Else1
+abbrev before-note-uses : tie.After-note_uses → tie.Else-stands
 before-note-uses c = search
 
-abbrev before-replace : tie.After-replace → tie.After-note-uses
+abbrev before-replace : tie.After-replace-run → tie.After-note_uses
 before-replace c = search
 
-abbrev called : tie.After-answer-of → tie.After-replace
+abbrev called : tie.After-answer_of → tie.After-replace-run
 called c = search
 
-abbrev started : tie.After-replace → tie.Start
+abbrev started : tie.After-replace-run → tie.Start
 started c = before-decide (before_stands (before-moving (before-note-uses (before-replace c))))
 
-decide-requires : tie.Need-decide-requires
+decide-requires : tie.Need-decide-act-requires
 decide-requires c κs =
     let start : tie.Start = search in
-    decision start.pre.so
+    decision start.requires.so
 
-carry-place-requires : tie.Need-carry-place-requires
+carry-place-requires : tie.Need-carry_place-requires
 carry-place-requires c κs =
     let at-stands : tie.After-stands = search in
     let at-decide = before_stands at-stands in
     let start = before-decide at-decide in
-    turn-carries start.pre.so
+    turn-carries start.requires.so
 
-returns : tie.Need-returns
+returns : tie.Need-returns-then-stands
 returns c T t =
-    let taken : tie.Then1 = search in
+    let taken : tie.Then-stands = search in
     let at-stands : tie.After-stands = search in
     let at-decide = before_stands at-stands in
-    turn-stands t at-decide.decide.ensures at-stands.stands.ensures taken.if1.taken refl c.carry-place.ensures refl
+    turn-stands t at-decide.decide-act.ensures at-stands.stands.ensures taken.if-stands.true refl c.carry_place.ensures refl
 
-note-uses-requires : tie.Need-note-uses-requires
+note-uses-requires : tie.Need-note_uses-requires
 note-uses-requires c κs =
-    let at-moving : tie.Else1 = search in
+    let at-moving : tie.Else-stands = search in
     let at-stands = before-moving at-moving in
     let at-decide = before_stands at-stands in
     let start = before-decide at-decide in
-    uses-notable start.pre.so at-decide.decide.ensures
+    uses-notable start.requires.so at-decide.decide-act.ensures
 
-replace-requires : tie.Need-replace-requires
+replace-requires : tie.Need-replace-run-requires
 replace-requires c κs =
-    let at-note-uses : tie.After-note-uses = search in
+    let at-note-uses : tie.After-note_uses = search in
     let at-moving = before-note-uses at-note-uses in
     let at-stands = before-moving at-moving in
     let at-decide = before_stands at-stands in
     let start = before-decide at-decide in
-    (moves start.pre.so at-decide.decide.ensures at-stands.stands.ensures at-moving.if1.left, lists-replaceable start.pre.so at-decide.decide.ensures at-note-uses.note-uses.ensures)
+    (moves start.requires.so at-decide.decide-act.ensures at-stands.stands.ensures at-moving.if-stands.false, lists-replaceable start.requires.so at-decide.decide-act.ensures at-note-uses.note_uses.ensures)
 
-returns-2 : tie.Need-returns-2
+returns-2 : tie.Need-returns
 returns-2 c T t =
     let at-replace = called c in
     let at-note-uses = before-replace at-replace in
     let at-moving = before-note-uses at-note-uses in
     let at-stands = before-moving at-moving in
     let at-decide = before_stands at-stands in
-    turn-moves t at-decide.decide.ensures at-note-uses.note-uses.ensures (moves t at-decide.decide.ensures at-stands.stands.ensures at-moving.if1.left) refl refl at-replace.replace.ensures refl c.answer-of.ensures
+    turn-moves t at-decide.decide-act.ensures at-note-uses.note_uses.ensures (moves t at-decide.decide-act.ensures at-stands.stands.ensures at-moving.if-stands.false) refl refl at-replace.replace-run.ensures refl c.answer_of.ensures
 
-pub turn-at-spec : {M : Type 1} → statement M
-turn-at-spec =
+pub turn_at_spec : {M : Type 1} → statement M
+turn_at_spec =
     tie.close
     (tie.spec
-    (λ c. let z = turn-slots (the tie.Start (search)).pre.so in omega (arith, z.position, z.few))
-    (λ c. (turn-slots (the tie.Start (search)).pre.so).order)
-    (λ c. omega (arith, (turn-slots (the tie.Start (search)).pre.so).place))
-    (λ c. omega (arith, (turn-slots (the tie.Start (search)).pre.so).place))
-    (λ c. (turn-slots (the tie.Start (search)).pre.so).timestamps)
-    (λ c. omega (arith, (turn-slots (the tie.Start (search)).pre.so).place))
-    (λ c. (turn-slots (the tie.Start (search)).pre.so).versions)
+    (λ c. let z = turn-slots (the tie.Start (search)).requires.so in omega (arith, z.position, z.few))
+    (λ c. (turn-slots (the tie.Start (search)).requires.so).order)
+    (λ c. omega (arith, (turn-slots (the tie.Start (search)).requires.so).place))
+    (λ c. omega (arith, (turn-slots (the tie.Start (search)).requires.so).place))
+    (λ c. (turn-slots (the tie.Start (search)).requires.so).timestamps)
+    (λ c. omega (arith, (turn-slots (the tie.Start (search)).requires.so).place))
+    (λ c. (turn-slots (the tie.Start (search)).requires.so).versions)
     decide-requires
     (λ c κs. search rules)
     carry-place-requires
     (λ c. omega (arith, (turn-slots (before-decide (search)).requires.so).place))
-    (λ c. (turn-slots (before-decide (search)).requires.so).status)
+    (λ c. (turn-slots (before-decide (search)).requires.so).status-1)
     (λ c. simp length-set)
     (λ c. refl)
     (λ c. refl)
@@ -103,14 +103,14 @@ turn-at-spec =
     note-uses-requires
     replace-requires
     (λ c. omega (arith, (turn-slots (started (search)).requires.so).place))
-    (λ c. omega (arith, (turn-slots (started (search)).requires.so).status, (the tie.After-replace (search)).replace.kept))
+    (λ c. omega (arith, (turn-slots (started (search)).requires.so).status-1, (the tie.After-replace-run (search)).replace-run.kept))
     (λ c κs. search rules)
-    (λ c. simp length-set (omega (arith, (called c).replace.auto)))
-    (λ c. omega (arith, (called c).replace.auto))
-    (λ c. omega (arith, (called c).replace.auto))
-    (λ c. omega (arith, (called c).replace.auto))
-    (λ c. omega (arith, (called c).replace.auto))
-    (λ c. omega (arith, (called c).replace.auto))
-    (λ c. omega (arith, (called c).replace.auto))
-    (λ c. omega (arith, (called c).replace.auto))
+    (λ c. simp length-set (omega (arith, (called c).replace-run.auto)))
+    (λ c. omega (arith, (called c).replace-run.auto))
+    (λ c. omega (arith, (called c).replace-run.auto))
+    (λ c. omega (arith, (called c).replace-run.auto))
+    (λ c. omega (arith, (called c).replace-run.auto))
+    (λ c. omega (arith, (called c).replace-run.auto))
+    (λ c. omega (arith, (called c).replace-run.auto))
+    (λ c. omega (arith, (called c).replace-run.auto))
     returns-2)

@@ -9,20 +9,20 @@ use Rattle.uses.proofs.Lists.{lent-list}
 use Rattle.uses.proofs.note_at.Statement.{statement}
 use Rattle.uses.proofs.note_at.Tie as tie
 
-note-list-requires : tie.Need-note-list-requires
+note-list-requires : tie.Need-note_list-requires
 note-list-requires c κs =
     let start : tie.Start = search in
     let a = start.args in
-    subst OfSettings (sym (lent-list a.place a.counts.now a.settings.now)) start.pre.1
+    subst OfSettings (sym (lent-list a.place a.counts.now a.settings.now)) start.requires.1
 
 returns : tie.Need-returns
 returns c =
     let start : tie.Start = search in
     let a = start.args in
-    c.note-list.ensures ∙ ap (λ (l : List ℕ). numbered l a.number a.numbers.now) (lent-list a.place a.counts.now a.settings.now)
+    c.note_list.ensures ∙ ap (λ (l : List ℕ). numbered l a.number a.numbers.now) (lent-list a.place a.counts.now a.settings.now)
 
-pub note-at-spec : {M : Type 1} → statement M
-note-at-spec =
+pub note_at_spec : {M : Type 1} → statement M
+note_at_spec =
     tie.close
     (tie.spec
     (λ c. search rules)

@@ -10,26 +10,26 @@ use Rattle.general.proofs.Places.{the}
 use Rattle.uses.proofs.note_list.Statement.{statement}
 use Rattle.uses.proofs.note_list.Tie as tie
 
-abbrev invariant-loop : tie.invariant-loop
+abbrev invariant-loop : tie.invariant-loop-j
 invariant-loop settings number numbers₀ j₀ numbers j =
     (j ≤ length settings) × (numbered (drop j settings) number numbers ≡ numbered settings number numbers₀)
 
-abbrev decreases-loop : tie.decreases-loop
+abbrev decreases-loop : tie.decreases-loop-j
 decreases-loop settings number numbers₀ j₀ numbers j = length settings - j
 
-loop-again : tie.Need-loop-preserved invariant-loop decreases-loop
+loop-again : tie.Need-loop-j-preserved invariant-loop decreases-loop
 loop-again c =
-    let l = (the (tie.At-loop invariant-loop decreases-loop) (search)).loop in
-    (omega arith, numbered_next _ _ l.j l.numbers (the (tie.In-loop invariant-loop decreases-loop) (search)).loop-test.taken ∙ l.inv.1)
+    let l = (the (tie.At-loop-j invariant-loop decreases-loop) (search)).loop-j in
+    (omega arith, numbered_next _ _ l.j l.numbers (the (tie.In-loop-j invariant-loop decreases-loop) (search)).loop-j-test.true ∙ l.invariant.1)
 
 returns : tie.Need-returns invariant-loop decreases-loop
 returns c =
-    let at-loop : tie.At-loop invariant-loop decreases-loop = search in
-    let l = at-loop.loop in
-    numbered-end _ _ l.j l.numbers c.loop-test.false ∙ l.inv.1
+    let at-loop : tie.At-loop-j invariant-loop decreases-loop = search in
+    let l = at-loop.loop-j in
+    numbered-end _ _ l.j l.numbers c.loop-j-test.false ∙ l.invariant.1
 
-pub note-list-spec : {M : Type 1} → statement M
-note-list-spec =
+pub note_list_spec : {M : Type 1} → statement M
+note_list_spec =
     tie.close
     (tie.spec
     invariant-loop
@@ -37,9 +37,9 @@ note-list-spec =
     (λ c. (omega arith, refl))
     (λ c. search rules)
     (λ c. search rules)
-    (λ c. omega (arith, c.shared-slice-known.given (the (tie.At-loop invariant-loop decreases-loop) (search)).loop.j))
-    (λ c. omega (arith, (the (tie.Start invariant-loop decreases-loop) (search)).pre.below (the (tie.At-loop invariant-loop decreases-loop) (search)).loop.j (the (tie.In-loop invariant-loop decreases-loop) (search)).loop-test.taken))
-    (λ c. let at-in-loop : tie.In-loop invariant-loop decreases-loop = search in let at-loop : tie.At-loop invariant-loop decreases-loop = search in let start : tie.Start invariant-loop decreases-loop = search in start.pre.below at-loop.loop.j at-in-loop.loop-test.taken)
+    (λ c. omega (arith, c.shared_slice_known-1.given (the (tie.At-loop-j invariant-loop decreases-loop) (search)).loop-j.j))
+    (λ c. omega (arith, (the (tie.Start invariant-loop decreases-loop) (search)).requires.below (the (tie.At-loop-j invariant-loop decreases-loop) (search)).loop-j.j (the (tie.In-loop-j invariant-loop decreases-loop) (search)).loop-j-test.true))
+    (λ c. let at-in-loop : tie.In-loop-j invariant-loop decreases-loop = search in let at-loop : tie.At-loop-j invariant-loop decreases-loop = search in let start : tie.Start invariant-loop decreases-loop = search in start.requires.below at-loop.loop-j.j at-in-loop.loop-j-test.true)
     (λ c. search rules)
     (λ c. search rules)
     loop-again

@@ -13,18 +13,18 @@ use Rattle.values.proofs.value_below.Tie as tie
 abbrev sought : tie.Start → Option ℤ
 sought c = let a = c.args in previous_write a.order.now a.writes.now a.targets.now a.written.now a.s a.k
 
-returns : tie.Need-returns
+returns : tie.Need-returns-in-Value
 returns c =
-    let found : tie.After-v = search in
-    let r : tie.After-previous-write = search in
-    to_z-of_z (sfits_of c.known-told.given.0.1) ∙ found-value (sought (search)) r.previous-write.ensures found.v.given.1 _
+    let found : tie.In-Value-2 = search in
+    let r : tie.After-previous_write = search in
+    to_z-of_z (sfits_of c.known_told-1.given.0.1) ∙ found-value (sought (search)) r.previous_write.ensures found.v-1.given.1 _
 
-returns-2 : tie.Need-returns-2
+returns-2 : tie.Need-returns-in-Nothing
 returns-2 c =
-    let none : tie.After-enum-told = search in
-    let r : tie.After-previous-write = search in
-    to_z-of_z (sfits_of c.result.given) ∙ found_none (sought (search)) r.previous-write.ensures none.enum_told.given.1 _
+    let none : tie.In-Nothing = search in
+    let r : tie.After-previous_write = search in
+    to_z-of_z (sfits_of c.result-1.given) ∙ found_none (sought (search)) r.previous_write.ensures none.enum_told-1.given.1 _
 
-pub value-below-spec : {M : Type 1} → statement M
-value-below-spec =
+pub value_below_spec : {M : Type 1} → statement M
+value_below_spec =
     tie.close (tie.spec (λ c κs. search rules) (λ c. search rules) (λ c. search rules) (λ c. search rules) (λ c. search rules) returns returns-2)

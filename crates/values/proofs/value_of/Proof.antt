@@ -7,28 +7,28 @@ use Rattle.values.proofs.Known.{looked-none, noted, looked-one}
 use Rattle.values.proofs.value_of.Statement.{statement}
 use Rattle.values.proofs.value_of.Tie as tie
 
-returns : tie.Need-returns
+returns : tie.Need-returns-then-known-x-ne0
 returns c =
-    let taken : tie.Then1 = search in
+    let taken : tie.Then-known-x-ne0 = search in
     let s : tie.Start = search in
-    let h = s.pre.1.right in
-    (to_z-of_z (sfits_of c.result.given) ∙ h.after_is s.args.s s.pre.0 taken.if1.taken, taken.if1.taken, looked-none h)
+    let h = s.requires.1.right in
+    (to_z-of_z (sfits_of c.result-1.given) ∙ h.after_is s.args.s s.requires.0 taken.if-known-x-ne0.true, taken.if-known-x-ne0.true, looked-none h)
 
-returns-2 : tie.Need-returns-2
+returns-2 : tie.Need-returns
 returns-2 c =
     let s : tie.Start = search in
-    let h = s.pre.1.right in
-    let e = to_z-of_z (sfits_of c.value-below.type-inv) ∙ c.value-below.ensures in
-    (e, noted h s.args.s s.pre.0, looked-one h s.args.s s.pre.0 e)
+    let h = s.requires.1.right in
+    let e = to_z-of_z (sfits_of c.value_below-v.type-inv) ∙ c.value_below-v.ensures in
+    (e, noted h s.args.s s.requires.0, looked-one h s.args.s s.requires.0 e)
 
-value-below-requires : tie.Need-value-below-requires
+value-below-requires : tie.Need-value_below-v-requires
 value-below-requires c κs =
     let s : tie.Start = search in
-    let p = s.pre.1 in
-    (p.placed, p.listed, omega (arith, s.pre.0, p.kept-sized))
+    let p = s.requires.1 in
+    (p.placed, p.listed, omega (arith, s.requires.0, p.kept-sized))
 
-pub value-of-spec : {M : Type 1} → statement M
-value-of-spec =
+pub value_of_spec : {M : Type 1} → statement M
+value_of_spec =
     tie.close
     (tie.spec
     (λ c. search rules)

@@ -11,41 +11,41 @@ use Rattle.view_updates.proofs.Steps.{follow-next, follow-kept, follow-end}
 use Rattle.view_updates.proofs.follow_view.Statement.{statement}
 use Rattle.view_updates.proofs.follow_view.Tie as tie
 
-abbrev invariant-loop : tie.invariant-loop
+abbrev invariant-loop : tie.invariant-loop-i
 invariant-loop changed k writers after view₀ from i₀ view i =
     (i ≤ length changed) × (length view ≡ length view₀) × (followed writers (k + 1) after (drop i changed) view ≡ followed writers (k + 1) after changed view₀)
 
-abbrev decreases-loop : tie.decreases-loop
+abbrev decreases-loop : tie.decreases-loop-i
 decreases-loop changed k writers after view₀ from i₀ view i = length changed - i
 
 -- the entry of the function
-abbrev start : tie.In-loop invariant-loop decreases-loop → tie.Start invariant-loop decreases-loop
+abbrev start : tie.In-loop-i invariant-loop decreases-loop → tie.Start invariant-loop decreases-loop
 start c = search
 
 -- the setting of a turn
-within : (c : tie.In-loop invariant-loop decreases-loop) → get_or (start c).args.changed.now c.before.loop.i 0 < setting_count
-within c = (start c).requires.1.below c.before.loop.i c.loop-test.true
+within : (c : tie.In-loop-i invariant-loop decreases-loop) → get_or (start c).args.changed.now c.before.loop-i.i 0 < setting_count
+within c = (start c).requires.1.below c.before.loop-i.i c.loop-i-test.true
 
-loop-again : tie.Need-loop-preserved invariant-loop decreases-loop
+loop-again : tie.Need-loop-i-preserved invariant-loop decreases-loop
 loop-again c =
-    let t : tie.In-loop invariant-loop decreases-loop = search in
-    let l = t.before.loop in
+    let t : tie.In-loop-i invariant-loop decreases-loop = search in
+    let l = t.before.loop-i in
     let r = c.before.wide.ensures.0 in (
       omega arith,
-      ⊎_elim (λ w. ap length w.2 ∙ simp length-set l.inv.1) (λ w. ap length w.1 ∙ l.inv.1) c.if1.branch,
-      ⊎_elim (λ w. follow-next _ _ _ _ l.i l.view t.loop-test.taken (omega (arith, w.0.taken, r)) w.2 (search rules) ∙ l.inv.2)
-          (λ w. follow-kept _ _ _ _ l.i l.view t.loop-test.taken (omega (arith, w.0.left, r)) w.1 ∙ l.inv.2)
-          c.if1.branch,
+      ⊎_elim (λ w. ap length w.2 ∙ simp length-set l.invariant.1) (λ w. ap length w.1 ∙ l.invariant.1) c.if-wide-from.branch,
+      ⊎_elim (λ w. follow-next _ _ _ _ l.i l.view-1 t.loop-i-test.true (omega (arith, w.0.true, r)) w.2 (search rules) ∙ l.invariant.2)
+          (λ w. follow-kept _ _ _ _ l.i l.view-1 t.loop-i-test.true (omega (arith, w.0.false, r)) w.1 ∙ l.invariant.2)
+          c.if-wide-from.branch,
     )
 
 returns : tie.Need-returns invariant-loop decreases-loop
 returns c =
-    let at-loop : tie.At-loop invariant-loop decreases-loop = search in
-    let l = at-loop.loop in
-    follow-end _ _ _ _ l.i l.view c.loop-test.false ∙ l.inv.2
+    let at-loop : tie.At-loop-i invariant-loop decreases-loop = search in
+    let l = at-loop.loop-i in
+    follow-end _ _ _ _ l.i l.view-1 c.loop-i-test.false ∙ l.invariant.2
 
-pub follow-view-spec : {M : Type 1} → statement M
-follow-view-spec =
+pub follow_view_spec : {M : Type 1} → statement M
+follow_view_spec =
     tie.close
     (tie.spec
     invariant-loop
@@ -61,9 +61,9 @@ follow-view-spec =
     (λ c. omega (arith, within (search)))
     (λ c. within (search))
     (λ c. omega (arith, within (search)))
-    (λ c. let t : tie.In-loop invariant-loop decreases-loop = search in omega (arith, within t, t.before.loop.inv.1, (start t).pre.2))
+    (λ c. let t : tie.In-loop-i invariant-loop decreases-loop = search in omega (arith, within t, t.before.loop-i.invariant.1, (start t).requires.2))
     (λ c. search rules)
     (λ c. search rules)
     loop-again
-    (λ c. let at-loop : tie.At-loop invariant-loop decreases-loop = search in at-loop.loop.inv.1)
+    (λ c. let at-loop : tie.At-loop-i invariant-loop decreases-loop = search in at-loop.loop-i.invariant.1)
     returns)

@@ -35,92 +35,92 @@ lens s = (facts s.requires.formed).sizes
 
 -- ---- the places of the code, from each the one before
 
-abbrev entry : tie.After-is-timestamp → tie.Start
+abbrev entry : tie.After-is_timestamp → tie.Start
 entry c = search
 
-abbrev start : tie.After-position → tie.Start
+abbrev start : tie.After-position-found → tie.Start
 start c = entry (search)
 
-abbrev searched : tie.After-found → tie.After-position
+abbrev searched : tie.In-At-2 → tie.After-position-found
 searched c = search
 
-abbrev counted : tie.After-position → tie.After-held-count
+abbrev counted : tie.After-position-found → tie.After-held_count-count
 counted c = search
 
-abbrev flagged : tie.Else3 → tie.After-found
+abbrev flagged : tie.Else-withdrawn-place-ne0 → tie.In-At-2
 flagged c = search
 
 -- ---- what the test and the search tell
 
-stamped : (c : tie.After-position) → is_timestamp (start c).args.timestamp ≡ true
+stamped : (c : tie.After-position-found) → is_timestamp (start c).args.timestamp ≡ true
 stamped c =
-    let t : tie.Else1 = search in
-    sym t.before.is-timestamp.ensures ∙ not-false _ t.if1.left
+    let t : tie.Else-not-is_timestamp = search in
+    sym t.before.is_timestamp.ensures ∙ not-false _ t.if-not-is_timestamp.false
 
-from : (c : tie.After-position) → let a = (start c).args in ltb a.timestamp (get_or a.cutoff.now 0 0) ≡ false
-from c = let at-else2 : tie.Else2 = search in le-ltb _ _ at-else2.if2.left
+from : (c : tie.After-position-found) → let a = (start c).args in ltb a.timestamp (get_or a.cutoff.now 0 0) ≡ false
+from c = let at-else2 : tie.Else-timestamp-cutoff = search in le-ltb _ _ at-else2.if-timestamp-cutoff.false
 
-told : (c : tie.After-position) (T : Tables) {x : Option ℕ} → let a = (start c).args in position_of a.order.now a.timestamps.now a.timestamp (counted c).held-count.result ≡ x → position_in (lent (start c) T) a.timestamp ≡ x
+told : (c : tie.After-position-found) (T : Tables) {x : Option ℕ} → let a = (start c).args in position_of a.order.now a.timestamps.now a.timestamp (counted c).held_count-count.result ≡ x → position_in (lent (start c) T) a.timestamp ≡ x
 told c T e =
     let a = (start c).args in
-    ap (position_of a.order.now a.timestamps.now a.timestamp) (sym (counted c).held-count.ensures) ∙ e
+    ap (position_of a.order.now a.timestamps.now a.timestamp) (sym (counted c).held_count-count.ensures) ∙ e
 
-at : (c : tie.After-found) (T : Tables) → let s = start (searched c) in position_in (lent s T) s.args.timestamp ≡ some c.found.given.0.0
-at c T = told (searched c) T (found_at _ (searched c).position.ensures c.found.given.1)
+at : (c : tie.In-At-2) (T : Tables) → let s = start (searched c) in position_in (lent s T) s.args.timestamp ≡ some c.found-1.given.0.0
+at c T = told (searched c) T (found_at _ (searched c).position-found.ensures c.found-1.given.1)
 
 -- the slots that the code reads and writes are there
-within : (c : tie.After-found) → let a = (start (searched c)).args in let k = c.found.given.0.0 in (k < length a.order.now) × (get_or a.order.now k 0 < length a.status.now) × (get_or a.order.now k 0 < length a.withdrawn.now) × (get_or a.order.now k 0 < 4096)
+within : (c : tie.In-At-2) → let a = (start (searched c)).args in let k = c.found-1.given.0.0 in (k < length a.order.now) × (get_or a.order.now k 0 < length a.status.now) × (get_or a.order.now k 0 < length a.withdrawn.now) × (get_or a.order.now k 0 < 4096)
 within c =
     let s = start (searched c) in
-    let g = s.pre.formed in
+    let g = s.requires.formed in
     let l = lens s in
-    let k = (position_some g s.args.timestamp _ (at c s.pre.others)).0 in
+    let k = (position_some g s.args.timestamp _ (at c s.requires.others)).0 in
     let small = (facts g).form.small in
     let place = (facts g).form.places _ k in
     (omega (arith, l.order), omega (arith, l.status), omega (arith, l.withdrawn), omega (arith, l.capacity))
 
-position-requires : tie.Need-position-requires
+position-requires : tie.Need-position-found-requires
 position-requires c κs =
     let s = entry (search) in
-    placed s.pre.formed _ _ (omega (arith, c.held-count.ensures)) (lens s).timestamps
+    placed s.requires.formed _ _ (omega (arith, c.held_count-count.ensures)) (lens s).timestamps
 
 -- ---- returns
 
-returns : tie.Need-returns
+returns : tie.Need-returns-then-not-is_timestamp
 returns c =
     record {
-      answered = λ T g. item-replied (withdrawing (entry c.before).args.timestamp) g (no-timestamp _ _ _ (sym c.before.is-timestamp.ensures ∙ not-true _ c.if1.true)) refl;
+      answered = λ T g. item-replied (withdrawing (entry c.before).args.timestamp) g (no-timestamp _ _ _ (sym c.before.is_timestamp.ensures ∙ not-true _ c.if-not-is_timestamp.true)) refl;
     }
 
-returns-2 : tie.Need-returns-2
+returns-2 : tie.Need-returns-then-timestamp-cutoff
 returns-2 c =
-    let t : tie.Else1 = search in
-    record { answered = λ T g. cut-replied g _ (sym t.before.is-timestamp.ensures ∙ not-false _ t.if1.left) (lt-ltb _ _ c.if2.true) }
+    let t : tie.Else-not-is_timestamp = search in
+    record { answered = λ T g. cut-replied g _ (sym t.before.is_timestamp.ensures ∙ not-false _ t.if-not-is_timestamp.false) (lt-ltb _ _ c.if-timestamp-cutoff.true) }
 
-returns-3 : tie.Need-returns-3
+returns-3 : tie.Need-returns-in_default
 returns-3 c =
-    let p : tie.After-position = search in
-    record { answered = λ T g. not-held-replied g _ (stamped p) (from p) (told p T (found_nothing _ p.position.ensures c.enum_told.given.1)) }
+    let p : tie.After-position-found = search in
+    record { answered = λ T g. not-held-replied g _ (stamped p) (from p) (told p T (found_nothing _ p.position-found.ensures c.enum_told-1.given.1)) }
 
-returns-4 : tie.Need-returns-4
+returns-4 : tie.Need-returns-then-withdrawn-place-ne0
 returns-4 c =
-    let f : tie.After-found = search in
-    record { answered = λ T g. already-replied g _ (stamped (searched f)) (from (searched f)) (at f T) c.if3.true }
+    let f : tie.In-At-2 = search in
+    record { answered = λ T g. already-replied g _ (stamped (searched f)) (from (searched f)) (at f T) c.if-withdrawn-place-ne0.true }
 
-returns-5 : tie.Need-returns-5
+returns-5 : tie.Need-returns
 returns-5 c =
-    let e : tie.Else3 = search in
+    let e : tie.Else-withdrawn-place-ne0 = search in
     let f = flagged e in
     let a = (start (searched f)).args in
-    let i = get_or a.order.now f.found.given.0.0 0 in
+    let i = get_or a.order.now f.found-1.given.0.0 0 in
     record {
       answered = λ T g.
           ap (λ (s : ℕ). reply answer.Done (with_lent T a.held.now a.timestamps.now a.order.now (set a.status.now i s) (set a.withdrawn.now i 1) a.cutoff.now)) c.unsettled.ensures
-          ∙ done-replied g _ (stamped (searched f)) (from (searched f)) (at f T) e.if3.left;
+          ∙ done-replied g _ (stamped (searched f)) (from (searched f)) (at f T) e.if-withdrawn-place-ne0.false;
     }
 
-pub withdraw-item-spec : {M : Type 1} → statement M
-withdraw-item-spec =
+pub withdraw_item_spec : {M : Type 1} → statement M
+withdraw_item_spec =
     tie.close
     (tie.spec
     (λ c κs. tt)

@@ -7,5 +7,5 @@ use Rattle.words.proofs.bit_and.Tie as tie
 returns : tie.Need-returns
 returns c = bits-operation bit_and c.ranges.a c.ranges.b
 
-pub bit-and-spec : {M : Type 1} → statement M
-bit-and-spec = tie.close (tie.spec returns)
+pub bit_and_spec : {M : Type 1} → statement M
+bit_and_spec = tie.close (tie.spec returns)

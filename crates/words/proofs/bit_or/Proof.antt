@@ -7,5 +7,5 @@ use Rattle.words.proofs.bit_or.Tie as tie
 returns : tie.Need-returns
 returns c = bits-operation bit_or c.ranges.a c.ranges.b
 
-pub bit-or-spec : {M : Type 1} → statement M
-bit-or-spec = tie.close (tie.spec returns)
+pub bit_or_spec : {M : Type 1} → statement M
+bit_or_spec = tie.close (tie.spec returns)

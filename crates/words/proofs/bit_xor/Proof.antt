@@ -7,5 +7,5 @@ use Rattle.words.proofs.bit_xor.Tie as tie
 returns : tie.Need-returns
 returns c = bits-operation bit_xor c.ranges.a c.ranges.b
 
-pub bit-xor-spec : {M : Type 1} → statement M
-bit-xor-spec = tie.close (tie.spec returns)
+pub bit_xor_spec : {M : Type 1} → statement M
+bit_xor_spec = tie.close (tie.spec returns)

@@ -14,7 +14,7 @@ use Rattle.words.proofs.count_ones.Tie as tie
 pattern-requires : tie.Need-pattern-requires
 pattern-requires c κs = search rules
 
-cast-result : tie.Need-overflow-cast-result
+cast-result : tie.Need-overflow_cast-result
 cast-result c = record { sfits = omega (arith, ones-le 32 c.pattern.result (omega arith)) }
 
 returns : tie.Need-returns
@@ -22,5 +22,5 @@ returns c =
     to_z-of_z w32 _ (cast-result c)
     ∙ ap pos (ap ones (c.pattern.ensures ∙ ap pattern_of (to_z-of_z w32 _ c.before.ranges.a)) ∙ sym (ones_of-ones _ (pattern_of-range c.before.args.a)))
 
-pub count-ones-spec : {M : Type 1} → statement M
-count-ones-spec = tie.close (tie.spec pattern-requires cast-result returns)
+pub count_ones_spec : {M : Type 1} → statement M
+count_ones_spec = tie.close (tie.spec pattern-requires cast-result returns)

@@ -6,11 +6,11 @@ use Rattle.words.proofs.Laws.{masked-fits, low-bits-pattern}
 use Rattle.words.proofs.low_bits.Statement.{statement}
 use Rattle.words.proofs.low_bits.Tie as tie
 
-cast-result : tie.Need-overflow-cast-result
+cast-result : tie.Need-overflow_cast-result
 cast-result c = search (rules, masked-fits)
 
 returns : tie.Need-returns
 returns c = ap nat_abs (low-bits-pattern _ c.ranges.x)
 
-pub low-bits-spec : {M : Type 1} → statement M
-low-bits-spec = tie.close (tie.spec cast-result returns)
+pub low_bits_spec : {M : Type 1} → statement M
+low_bits_spec = tie.close (tie.spec cast-result returns)

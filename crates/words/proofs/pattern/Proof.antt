@@ -6,14 +6,14 @@ use Rattle.words.specs.Words.{pattern_of}
 use Rattle.words.proofs.pattern.Statement.{statement}
 use Rattle.words.proofs.pattern.Tie as tie
 
-cast-low-bits : tie.Need-overflow-cast-low-bits
+cast-low-bits : tie.Need-overflow_cast-x
 cast-low-bits c = extend_fits c.ranges.x
 
-low-bits-requires : tie.Need-low-bits-requires
+low-bits-requires : tie.Need-low_bits-requires
 low-bits-requires c κs = search rules
 
 returns : tie.Need-returns
-returns c = c.low-bits.ensures ∙ ap pattern_of (extend_same _ c.before.ranges.x)
+returns c = c.low_bits.ensures ∙ ap pattern_of (extend_same _ c.before.ranges.x)
 
-pub pattern-spec : {M : Type 1} → statement M
-pattern-spec = tie.close (tie.spec cast-low-bits low-bits-requires returns)
+pub pattern_spec : {M : Type 1} → statement M
+pattern_spec = tie.close (tie.spec cast-low-bits low-bits-requires returns)

@@ -5,13 +5,13 @@ use Rattle.words.proofs.Laws.{sum_fits, extend_fits, extended_fits, extended-wra
 use Rattle.words.proofs.wrapping_add.Statement.{statement}
 use Rattle.words.proofs.wrapping_add.Tie as tie
 
-cast-wrapped : tie.Need-overflow-cast-wrapped
+cast-wrapped : tie.Need-overflow_cast-a
 cast-wrapped c = search (rules, extend_fits)
 
-cast-wrapped-2 : tie.Need-overflow-cast-wrapped-2
+cast-wrapped-2 : tie.Need-overflow_cast-b
 cast-wrapped-2 c = search (rules, extend_fits)
 
-add-wrapped : tie.Need-overflow-add-wrapped
+add-wrapped : tie.Need-overflow_add-a
 add-wrapped c = search (rules, extended_fits ◌+ℤ◌ sum_fits)
 
 wrapped-requires : tie.Need-wrapped-requires
@@ -20,5 +20,5 @@ wrapped-requires c κs = search rules
 returns : tie.Need-returns
 returns c = extended-wrap ◌+ℤ◌ sum_fits c.before.ranges.a c.before.ranges.b c.wrapped.ensures
 
-pub wrapping-add-spec : {M : Type 1} → statement M
-wrapping-add-spec = tie.close (tie.spec cast-wrapped cast-wrapped-2 add-wrapped wrapped-requires returns)
+pub wrapping_add_spec : {M : Type 1} → statement M
+wrapping_add_spec = tie.close (tie.spec cast-wrapped cast-wrapped-2 add-wrapped wrapped-requires returns)

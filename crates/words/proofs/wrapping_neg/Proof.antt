@@ -6,11 +6,11 @@ use Rattle.words.specs.Words.{wrap}
 use Rattle.words.proofs.wrapping_neg.Statement.{statement}
 use Rattle.words.proofs.wrapping_neg.Tie as tie
 
-wrapping-sub-requires : tie.Need-wrapping-sub-requires
+wrapping-sub-requires : tie.Need-wrapping_sub-requires
 wrapping-sub-requires c κs = search rules
 
 returns : tie.Need-returns
-returns c = wrapped-read-back _ (c.wrapping-sub.ensures ∙ ap wrap (zero-less c.before.ranges.a))
+returns c = wrapped-read-back _ (c.wrapping_sub.ensures ∙ ap wrap (zero-less c.before.ranges.a))
 
-pub wrapping-neg-spec : {M : Type 1} → statement M
-wrapping-neg-spec = tie.close (tie.spec wrapping-sub-requires returns)
+pub wrapping_neg_spec : {M : Type 1} → statement M
+wrapping_neg_spec = tie.close (tie.spec wrapping-sub-requires returns)

@@ -5,13 +5,13 @@ use Rattle.words.proofs.Laws.{difference-fits, extend_fits, extended_fits, exten
 use Rattle.words.proofs.wrapping_sub.Statement.{statement}
 use Rattle.words.proofs.wrapping_sub.Tie as tie
 
-cast-wrapped : tie.Need-overflow-cast-wrapped
+cast-wrapped : tie.Need-overflow_cast-a
 cast-wrapped c = search (rules, extend_fits)
 
-cast-wrapped-2 : tie.Need-overflow-cast-wrapped-2
+cast-wrapped-2 : tie.Need-overflow_cast-b
 cast-wrapped-2 c = search (rules, extend_fits)
 
-sub-wrapped : tie.Need-overflow-sub-wrapped
+sub-wrapped : tie.Need-overflow_sub-a
 sub-wrapped c = search (rules, extended_fits ◌-ℤ◌ difference-fits)
 
 wrapped-requires : tie.Need-wrapped-requires
@@ -20,5 +20,5 @@ wrapped-requires c κs = search rules
 returns : tie.Need-returns
 returns c = extended-wrap ◌-ℤ◌ difference-fits c.before.ranges.a c.before.ranges.b c.wrapped.ensures
 
-pub wrapping-sub-spec : {M : Type 1} → statement M
-wrapping-sub-spec = tie.close (tie.spec cast-wrapped cast-wrapped-2 sub-wrapped wrapped-requires returns)
+pub wrapping_sub_spec : {M : Type 1} → statement M
+wrapping_sub_spec = tie.close (tie.spec cast-wrapped cast-wrapped-2 sub-wrapped wrapped-requires returns)

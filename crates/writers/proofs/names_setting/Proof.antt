@@ -10,27 +10,27 @@ use Rattle.writers.proofs.Named.{names-next, names-end}
 use Rattle.writers.proofs.names_setting.Statement.{statement}
 use Rattle.writers.proofs.names_setting.Tie as tie
 
-abbrev invariant-loop : tie.invariant-loop
+abbrev invariant-loop : tie.invariant-loop-j
 invariant-loop s settings found₀ j₀ found j = (j ≤ length settings) × ((found || holds s (drop j settings)) ≡ holds s settings)
 
-abbrev decreases-loop : tie.decreases-loop
+abbrev decreases-loop : tie.decreases-loop-j
 decreases-loop s settings found₀ j₀ found j = length settings - j
 
-loop-again : tie.Need-loop-preserved invariant-loop decreases-loop
+loop-again : tie.Need-loop-j-preserved invariant-loop decreases-loop
 loop-again c =
-    let at-loop : tie.At-loop invariant-loop decreases-loop = search in
-    let turn : tie.In-loop invariant-loop decreases-loop = search in
-    let l = at-loop.loop in
-    (omega arith, names-next _ _ l.j l.found turn.loop-test.taken ∙ l.inv.1)
+    let at-loop : tie.At-loop-j invariant-loop decreases-loop = search in
+    let turn : tie.In-loop-j invariant-loop decreases-loop = search in
+    let l = at-loop.loop-j in
+    (omega arith, names-next _ _ l.j l.found turn.loop-j-test.true ∙ l.invariant.1)
 
 returns : tie.Need-returns invariant-loop decreases-loop
 returns c =
-    let at-loop : tie.At-loop invariant-loop decreases-loop = search in
-    let l = at-loop.loop in
-    names-end _ _ l.j l.found c.loop-test.false ∙ l.inv.1
+    let at-loop : tie.At-loop-j invariant-loop decreases-loop = search in
+    let l = at-loop.loop-j in
+    names-end _ _ l.j l.found c.loop-j-test.false ∙ l.invariant.1
 
-pub names-setting-spec : {M : Type 1} → statement M
-names-setting-spec =
+pub names_setting_spec : {M : Type 1} → statement M
+names_setting_spec =
     tie.close
     (tie.spec
     invariant-loop

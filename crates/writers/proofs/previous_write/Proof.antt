@@ -10,58 +10,58 @@ use Rattle.writers.proofs.Steps.{previous-here, previous-lower}
 use Rattle.writers.proofs.previous_write.Statement.{statement}
 use Rattle.writers.proofs.previous_write.Tie as tie
 
-abbrev invariant-loop : tie.invariant-loop
+abbrev invariant-loop : tie.invariant-loop-below
 invariant-loop s position order writes targets written below₀ below =
     (below ≤ position) × (previous_write order writes targets written s below ≡ previous_write order writes targets written s position)
 
-abbrev decreases-loop : tie.decreases-loop
+abbrev decreases-loop : tie.decreases-loop-below
 decreases-loop s position order writes targets written below₀ below = below
 
-abbrev entry : tie.At-loop invariant-loop decreases-loop → tie.Start invariant-loop decreases-loop
+abbrev entry : tie.At-loop-below invariant-loop decreases-loop → tie.Start invariant-loop decreases-loop
 entry l = search
 
 -- the place of a turn
-abbrev place_of : tie.In-loop invariant-loop decreases-loop → ℕ
-place_of c = get_or (entry c.before).args.order.now (c.before.loop.below - 1) 0
+abbrev place_of : tie.In-loop-below invariant-loop decreases-loop → ℕ
+place_of c = get_or (entry c.before).args.order.now (c.before.loop-below.below - 1) 0
 
 -- it has a count
-within : (c : tie.In-loop invariant-loop decreases-loop) → place_of c < length (entry c.before).args.writes.now
+within : (c : tie.In-loop-below invariant-loop decreases-loop) → place_of c < length (entry c.before).args.writes.now
 within c =
     let start : tie.Start invariant-loop decreases-loop = search in
-    start.pre.0.below (c.before.loop.below - 1) (omega arith)
+    start.requires.0.below (c.before.loop-below.below - 1) (omega arith)
 
-written-at-requires : tie.Need-written-at-requires invariant-loop decreases-loop
+written-at-requires : tie.Need-written_at-found-requires invariant-loop decreases-loop
 written-at-requires c κs =
     let start : tie.Start invariant-loop decreases-loop = search in
-    let p = start.pre.1 in
+    let p = start.requires.1 in
     let h = within (search) in
     (omega (arith, p.capacity), p.short _, omega (arith, p.target-slots), omega (arith, p.value-slots))
 
-returns : tie.Need-returns invariant-loop decreases-loop
+returns : tie.Need-returns-in-Value invariant-loop decreases-loop
 returns c =
-    let at-found : tie.After-found invariant-loop decreases-loop = search in
-    let at-written-at : tie.After-written-at invariant-loop decreases-loop = search in
-    let at-loop : tie.At-loop invariant-loop decreases-loop = search in
-    let l = at-loop.loop in
-    let here = previous-here _ _ _ _ _ l.below (omega arith) at-written-at.written_at.ensures at-found.found.given.1 in
-    rw (to_z-of_z (sfits_of c.known-told.given.0.1)) (ap written_of (here ∙ l.inv.1))
+    let at-found : tie.In-Value-2 invariant-loop decreases-loop = search in
+    let at-written-at : tie.After-written_at-found invariant-loop decreases-loop = search in
+    let at-loop : tie.At-loop-below invariant-loop decreases-loop = search in
+    let l = at-loop.loop-below in
+    let here = previous-here _ _ _ _ _ l.below (omega arith) at-written-at.written_at-found.ensures at-found.found-1.given.1 in
+    rw (to_z-of_z (sfits_of c.known_told-1.given.0.1)) (ap written_of (here ∙ l.invariant.1))
 
-loop-again : tie.Need-loop-preserved invariant-loop decreases-loop
+loop-again : tie.Need-loop-below-preserved invariant-loop decreases-loop
 loop-again c =
-    let at-loop : tie.At-loop invariant-loop decreases-loop = search in
-    let at-written-at : tie.After-written-at invariant-loop decreases-loop = search in
-    let l = at-loop.loop in
-    (omega arith, previous-lower _ _ _ _ _ l.below (omega arith) at-written-at.written_at.ensures c.enum_told.given.1 ∙ l.inv.1)
+    let at-loop : tie.At-loop-below invariant-loop decreases-loop = search in
+    let at-written-at : tie.After-written_at-found invariant-loop decreases-loop = search in
+    let l = at-loop.loop-below in
+    (omega arith, previous-lower _ _ _ _ _ l.below (omega arith) at-written-at.written_at-found.ensures c.enum_told-1.given.1 ∙ l.invariant.1)
 
-returns-2 : tie.Need-returns-2 invariant-loop decreases-loop
+returns-2 : tie.Need-returns invariant-loop decreases-loop
 unfolding previous_write
 returns-2 c =
-    let at-loop : tie.At-loop invariant-loop decreases-loop = search in
-    let e : c.before.loop.below ≡ 0 = omega arith in
-    ap written_of (rw e at at-loop.loop.inv.1)
+    let at-loop : tie.At-loop-below invariant-loop decreases-loop = search in
+    let e : c.before.loop-below.below ≡ 0 = omega arith in
+    ap written_of (rw e at at-loop.loop-below.invariant.1)
 
-pub previous-write-spec : {M : Type 1} → statement M
-previous-write-spec =
+pub previous_write_spec : {M : Type 1} → statement M
+previous_write_spec =
     tie.close
     (tie.spec
     invariant-loop
@@ -70,10 +70,10 @@ previous-write-spec =
     (λ c. search rules)
     (λ c. search rules)
     (λ c. search rules)
-    (λ c. omega (arith, within (search), (entry (search)).pre.1.capacity))
-    (λ c. omega (arith, within (search), (entry (search)).pre.1.capacity))
+    (λ c. omega (arith, within (search), (entry (search)).requires.1.capacity))
+    (λ c. omega (arith, within (search), (entry (search)).requires.1.capacity))
     (λ c. within (search))
-    (λ c. omega (arith, (entry (search)).pre.1.short (place_of (search))))
+    (λ c. omega (arith, (entry (search)).requires.1.short (place_of (search))))
     written-at-requires
     (λ c. search rules)
     returns

@@ -13,47 +13,47 @@ use Rattle.writers.proofs.Steps.{first_writes, write-here, write-lower}
 use Rattle.writers.proofs.written_at.Statement.{statement}
 use Rattle.writers.proofs.written_at.Tie as tie
 
-abbrev invariant-loop : tie.invariant-loop
+abbrev invariant-loop : tie.invariant-loop-j
 invariant-loop s place count targets written start j₀ j =
     (j ≤ count) × (first_writes s (32 * place) targets written j ≡ first_writes s (32 * place) targets written count)
 
-abbrev decreases-loop : tie.decreases-loop
+abbrev decreases-loop : tie.decreases-loop-j
 decreases-loop s place count targets written start j₀ j = j
 
-returns : tie.Need-returns invariant-loop decreases-loop
+returns : tie.Need-returns-then-not-names_setting invariant-loop decreases-loop
 returns c =
     let start : tie.Start invariant-loop decreases-loop = search in
     let a = start.args in
-    let n = not_named a.s a.place a.count a.targets.now (drop (32 * a.place) a.written.now) c.before.names-setting.ensures in
-    sym (ap written_of (n (not-true c.before.names-setting.result c.if1.true)))
+    let n = not_named a.s a.place a.count a.targets.now (drop (32 * a.place) a.written.now) c.before.names_setting.ensures in
+    sym (ap written_of (n (not-true c.before.names_setting.result c.if-not-names_setting.true)))
 
-returns-2 : tie.Need-returns-2 invariant-loop decreases-loop
+returns-2 : tie.Need-returns-then-targets-start invariant-loop decreases-loop
 returns-2 c =
-    let at-then2 : tie.Then2 invariant-loop decreases-loop = search in
-    let at-loop : tie.At-loop invariant-loop decreases-loop = search in
+    let at-then2 : tie.Then-targets-start invariant-loop decreases-loop = search in
+    let at-loop : tie.At-loop-j invariant-loop decreases-loop = search in
     let start : tie.Start invariant-loop decreases-loop = search in
     let a = start.args in
-    let l = at-loop.loop in
-    let here = write-here a.s (32 * a.place) a.targets.now a.written.now l.j (omega arith) (omega arith) (omega arith) at-then2.if2.taken in
-    rw (to_z-of_z (sfits_of c.t24.given)) (ap written_of (here ∙ l.inv.1))
+    let l = at-loop.loop-j in
+    let here = write-here a.s (32 * a.place) a.targets.now a.written.now l.j (omega arith) (omega arith) (omega arith) at-then2.if-targets-start.true in
+    rw (to_z-of_z (sfits_of c.result-1.given)) (ap written_of (here ∙ l.invariant.1))
 
-loop-again : tie.Need-loop-preserved invariant-loop decreases-loop
+loop-again : tie.Need-loop-j-preserved invariant-loop decreases-loop
 loop-again c =
     let start : tie.Start invariant-loop decreases-loop = search in
-    let at-loop : tie.At-loop invariant-loop decreases-loop = search in
+    let at-loop : tie.At-loop-j invariant-loop decreases-loop = search in
     let a = start.args in
-    let l = at-loop.loop in
-    (omega arith, write-lower a.s (32 * a.place) a.targets.now a.written.now l.j (omega arith) c.if2.false ∙ l.inv.1)
+    let l = at-loop.loop-j in
+    (omega arith, write-lower a.s (32 * a.place) a.targets.now a.written.now l.j (omega arith) c.if-targets-start.false ∙ l.invariant.1)
 
-returns-3 : tie.Need-returns-3 invariant-loop decreases-loop
+returns-3 : tie.Need-returns invariant-loop decreases-loop
 unfolding entries lookup
 returns-3 c =
-    let at-loop : tie.At-loop invariant-loop decreases-loop = search in
-    let e : c.before.loop.j ≡ 0 = omega arith in
-    ap written_of (rw e at at-loop.loop.inv.1)
+    let at-loop : tie.At-loop-j invariant-loop decreases-loop = search in
+    let e : c.before.loop-j.j ≡ 0 = omega arith in
+    ap written_of (rw e at at-loop.loop-j.invariant.1)
 
-pub written-at-spec : {M : Type 1} → statement M
-written-at-spec =
+pub written_at_spec : {M : Type 1} → statement M
+written_at_spec =
     tie.close
     (tie.spec
     invariant-loop

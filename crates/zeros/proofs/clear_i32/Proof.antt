@@ -7,19 +7,19 @@ use Rattle.general.proofs.Filled.{Filled, fill_none, fill-next, fill-same}
 use Rattle.zeros.proofs.clear_i32.Statement.{statement}
 use Rattle.zeros.proofs.clear_i32.Tie as tie
 
-abbrev invariant-loop : tie.invariant-loop
+abbrev invariant-loop : tie.invariant-loop-i
 invariant-loop s₀ i₀ s i = Filled (λ j. pos 0) (pos 0) i s₀ s
 
-abbrev decreases-loop : tie.decreases-loop
+abbrev decreases-loop : tie.decreases-loop-i
 decreases-loop s₀ i₀ s i = length s₀ - i
 
-loop-again : tie.Need-loop-preserved invariant-loop decreases-loop
-loop-again c = fill-next c.loop-test.true c.before.loop.invariant
+loop-again : tie.Need-loop-i-preserved invariant-loop decreases-loop
+loop-again c = fill-next c.loop-i-test.true c.before.loop-i.invariant
 
 returns : tie.Need-returns invariant-loop decreases-loop
-returns c = fill-same c.loop-test.false c.before.loop.invariant
+returns c = fill-same c.loop-i-test.false c.before.loop-i.invariant
 
-pub clear-i32-spec : {M : Type 1} → statement M
-clear-i32-spec =
+pub clear_i32_spec : {M : Type 1} → statement M
+clear_i32_spec =
     tie.close
-    (tie.spec invariant-loop decreases-loop (λ c. fill_none) (λ c. search rules) (λ c. search rules) (λ c. search rules) (λ c. search rules) loop-again (λ c. c.before.loop.invariant.same) returns)
+    (tie.spec invariant-loop decreases-loop (λ c. fill_none) (λ c. search rules) (λ c. search rules) (λ c. search rules) (λ c. search rules) loop-again (λ c. c.before.loop-i.invariant.same) returns)

@@ -8,19 +8,19 @@ use Rattle.zeros.proofs.Gathered.{Gathered, gather_none, gather-next, gather-las
 use Rattle.zeros.proofs.rest_zero_u64.Statement.{statement}
 use Rattle.zeros.proofs.rest_zero_u64.Tie as tie
 
-abbrev invariant-loop : tie.invariant-loop
+abbrev invariant-loop : tie.invariant-loop-i
 invariant-loop s start any₀ i₀ any i = Gathered all_zero any i s (all_zero (drop start s))
 
-abbrev decreases-loop : tie.decreases-loop
+abbrev decreases-loop : tie.decreases-loop-i
 decreases-loop s start any₀ i₀ any i = length s - i
 
-loop-again : tie.Need-loop-preserved invariant-loop decreases-loop
-loop-again c = gather-next c.before.loop-test.true c.before.before.loop.invariant
+loop-again : tie.Need-loop-i-preserved invariant-loop decreases-loop
+loop-again c = gather-next c.before.loop-i-test.true c.before.before.loop-i.invariant
 
 returns : tie.Need-returns invariant-loop decreases-loop
-returns c = gather-last refl c.loop-test.false c.before.loop.invariant
+returns c = gather-last refl c.loop-i-test.false c.before.loop-i.invariant
 
-pub rest-zero-u64-spec : {M : Type 1} → statement M
-rest-zero-u64-spec =
+pub rest_zero_u64_spec : {M : Type 1} → statement M
+rest_zero_u64_spec =
     tie.close
     (tie.spec invariant-loop decreases-loop (λ c. gather_none) (λ c. search rules) (λ c. search rules) (λ c. search rules) (λ c. search rules) loop-again returns)

@@ -10,29 +10,29 @@ use Rattle.bytecode.proofs.form.mask_of.Tie as tie
 row : {x k : ℕ} → x ≡ k → mask_of k ≡ mask_of x
 row e = ap mask_of (sym e)
 
-rest : tie.Need-returns-19
-rest c = absurd (omega (arith, apart_above 0 c.before.args.operation 18 c.match.rest (omega arith)))
+rest : tie.Need-returns-in_default
+rest c = absurd (omega (arith, apart_above 0 c.before.args.operation 18 c.in_default.rest (omega arith)))
 
-pub mask-of-spec : {M : Type 1} → statement M
-mask-of-spec =
+pub mask_of_spec : {M : Type 1} → statement M
+mask_of_spec =
     tie.close
     (tie.spec
-    (λ c. row c.match.keys1)
-    (λ c. row c.match.keys2)
-    (λ c. row c.match.keys3)
-    (λ c. row c.match.keys4)
-    (λ c. row c.match.keys5)
-    (λ c. row c.match.keys6)
-    (λ c. row c.match.keys7)
-    (λ c. row c.match.keys8)
-    (λ c. row c.match.keys9)
-    (λ c. row c.match.keys10)
-    (λ c. row c.match.keys11)
-    (λ c. row c.match.keys12)
-    (λ c. row c.match.keys13)
-    (λ c. row c.match.keys14)
-    (λ c. row c.match.keys15)
-    (λ c. row c.match.keys16)
-    (λ c. row c.match.keys17)
-    (λ c. row c.match.keys18)
+    (λ c. row c.in_default.keys1)
+    (λ c. row c.in_default.keys2)
+    (λ c. row c.in_default.keys3)
+    (λ c. row c.in_default.keys4)
+    (λ c. row c.in_default.keys5)
+    (λ c. row c.in_default.keys6)
+    (λ c. row c.in_default.keys7)
+    (λ c. row c.in_default.keys8)
+    (λ c. row c.in_default.keys9)
+    (λ c. row c.in_default.keys10)
+    (λ c. row c.in_default.keys11)
+    (λ c. row c.in_default.keys12)
+    (λ c. row c.in_default.keys13)
+    (λ c. row c.in_default.keys14)
+    (λ c. row c.in_default.keys15)
+    (λ c. row c.in_default.keys16)
+    (λ c. row c.in_default.keys17)
+    (λ c. row c.in_default.keys18)
     rest)

@@ -10,14 +10,14 @@ use Rattle.bytecode.proofs.program.instruction_at.Tie as tie
 returns : tie.Need-returns
 unfolding instruction_at
 returns c =
-    let at-number : tie.After-number = search in
-    let at-word-at : tie.After-word-at = search in
-    let n = at-number.number in
+    let at-number : tie.After-number-n = search in
+    let at-word-at : tie.After-word_at = search in
+    let n = at-number.number-n in
     let read_back : to_z w32 (of_z w32 n.result) ≡ n.result = search rules in
     rw (read_back, n.ensures, at-word-at.word_at.ensures)
 
-pub instruction-at-spec : {M : Type 1} → statement M
-instruction-at-spec =
+pub instruction_at_spec : {M : Type 1} → statement M
+instruction_at_spec =
     tie.close
     (tie.spec
     (λ c. search rules)

@@ -13,32 +13,32 @@ eight c = search rules
 
 returns : tie.Need-returns
 returns c =
-    let p7 : tie.After-pick7 = search in
-    let p6 : tie.After-pick6 = search in
-    let p5 : tie.After-pick5 = search in
-    let p4 : tie.After-pick4 = search in
-    let p3 : tie.After-pick3 = search in
-    let p2 : tie.After-pick2 = search in
+    let p7 : tie.After-pick-7 = search in
+    let p6 : tie.After-pick-6 = search in
+    let p5 : tie.After-pick-5 = search in
+    let p4 : tie.After-pick-4 = search in
+    let p3 : tie.After-pick-3 = search in
+    let p2 : tie.After-pick-2 = search in
     let p1 : tie.After-pick = search in
     let s : tie.Start = search in
     let r = s.args.t1 in
     let set =
     picks r.registers
-    (p1.pick.result ∷ p2.pick2.result ∷ p3.pick3.result ∷ p4.pick4.result ∷ p5.pick5.result ∷ p6.pick6.result ∷ p7.pick7.result ∷ c.pick8.result ∷ [])
-    s.args.a (eight s) refl s.pre s.fits.v
-    ((p1.pick.ensures, p1.before.pick-arg.given)
-    then (p2.pick2.ensures, p2.before.pick-arg2.given)
-    then (p3.pick3.ensures, p3.before.pick-arg3.given)
-    then (p4.pick4.ensures, p4.before.pick-arg4.given)
-    then (p5.pick5.ensures, p5.before.pick-arg5.given)
-    then (p6.pick6.ensures, p6.before.pick-arg6.given)
-    then (p7.pick7.ensures, p7.before.pick-arg7.given)
-    then (c.pick8.ensures, c.before.pick-arg8.given)
+    (p1.pick.result ∷ p2.pick-2.result ∷ p3.pick-3.result ∷ p4.pick-4.result ∷ p5.pick-5.result ∷ p6.pick-6.result ∷ p7.pick-7.result ∷ c.pick-8.result ∷ [])
+    s.args.a (eight s) refl s.requires s.fits.v
+    ((p1.pick.ensures, p1.before.pick-arg-1.given)
+    then (p2.pick-2.ensures, p2.before.pick-arg-2-1.given)
+    then (p3.pick-3.ensures, p3.before.pick-arg-3-1.given)
+    then (p4.pick-4.ensures, p4.before.pick-arg-4-1.given)
+    then (p5.pick-5.ensures, p5.before.pick-arg-5-1.given)
+    then (p6.pick-6.ensures, p6.before.pick-arg-6-1.given)
+    then (p7.pick-7.ensures, p7.before.pick-arg-7-1.given)
+    then (c.pick-8.ensures, c.before.pick-arg-8-1.given)
     then tt) in
     λ i. record { version = r.version; registers = set i; place = r.place; reads = r.reads; writes = r.writes; state = r.state }
 
-pub assign-spec : {M : Type 1} → statement M
-assign-spec =
+pub assign_spec : {M : Type 1} → statement M
+assign_spec =
     tie.close
     (tie.spec
     (λ c. search rules)

@@ -19,10 +19,10 @@ returns c =
     let status = withdrawn.before in
     let order = status.before in
     let timestamps = order.before in
-    all-joined (timestamps.rest-zero-u64.ensures and order.rest-zero-u16.ensures and status.rest-zero-u162.ensures and withdrawn.rest-zero-u163.ensures and lengths.rest-zero-u164.ensures and programs.rest-zero-u8.ensures and reads.rest-zero-u165.ensures and writes.rest-zero-u166.ensures and sources.rest-zero-u167.ensures and seen.rest-zero-i32.ensures and targets.rest-zero-u168.ensures and written.rest-zero-i322.ensures and versions.rest-zero-u169.ensures and no_more)
+    all-joined (timestamps.rest_zero_u64.ensures and order.rest_zero_u16.ensures and status.rest_zero_u16-2.ensures and withdrawn.rest_zero_u16-3.ensures and lengths.rest_zero_u16-4.ensures and programs.rest_zero_u8.ensures and reads.rest_zero_u16-5.ensures and writes.rest_zero_u16-6.ensures and sources.rest_zero_u16-7.ensures and seen.rest_zero_i32.ensures and targets.rest_zero_u16-8.ensures and written.rest_zero_i32-2.ensures and versions.rest_zero_u16-9.ensures and no_more)
 
-pub unused-fits-spec : {M : Type 1} → statement M
-unused-fits-spec =
+pub unused_fits_spec : {M : Type 1} → statement M
+unused_fits_spec =
     tie.close
     (tie.spec
     (λ c. search rules)
