@@ -116,7 +116,7 @@ item-sound {n} {c} (withdrawing t) s = by_answer (Sound n) (item_answer n c (wit
 
 pub items-sound : {n : ℕ} {c : Cabinet} (items : List Item) → Sound n c → Sound n (item_steps n c items)
 items-sound [] s = s
-items-sound (i ∷ items) s = items-sound items (item-sound i s)
+items-sound {n = n} {c = c} (i ∷ items) s = items-sound {n = n} {c = item_step n c i} items (item-sound i s)
 
 -- the cutoff and the kept values
 abbrev pub SameCutoff : Cabinet → Cabinet → Type 0
@@ -161,5 +161,5 @@ item-book {n} {c} i s =
 pub items-book : {n : ℕ} {c : Cabinet} (items : List Item) (rest : List ℕ) → Sound n c → book_of (history_of (item_steps n c items)) ≡ book_items items (map answer_number (item_answers n c items) ++ rest) (book_of (history_of c))
 items-book [] rest s = refl
 items-book {n} {c} (i ∷ items) rest s =
-    items-book items rest (item-sound i s)
+    items-book {n = n} {c = item_step n c i} items rest (item-sound i s)
     ∙ ap (book_items items (map answer_number (item_answers n (item_step n c i) items) ++ rest)) (item-book i s)

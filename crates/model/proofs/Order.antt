@@ -131,6 +131,7 @@ placed_of c e b d = record { counted = e; below = b; distinct = d; covers = all-
 -- ---- a sum over n distinct places below n
 
 not_there : (i m : ℕ) (places : List ℕ) → NotIn i places → In m places → ¬ (i ≡ m)
+not_there i m [] n x q = elim x [ ]
 not_there i m (j ∷ places) n (inl e) q = n.0 (q ∙ e)
 not_there i m (j ∷ places) n (inr h) q = not_there i m places n.1 h q
 
@@ -140,6 +141,7 @@ module _ (weight : ℕ → ℕ) where
   sum_over (i ∷ places) = weight i + sum_over places
 
   sum-without : (m : ℕ) (places : List ℕ) → In m places → AllDistinct places → sum_over places ≡ weight m + sum_over (without m places)
+  sum-without m [] x d = elim x [ ]
   sum-without m (i ∷ places) (inl e) d =
       rw (e, eq-eqb i i refl, without-none i places d.0)
   sum-without m (i ∷ places) (inr h) d =

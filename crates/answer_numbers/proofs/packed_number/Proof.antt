@@ -4,7 +4,7 @@ use Rattle.answer_numbers.proofs.packed_number.Statement.{statement}
 use Rattle.answer_numbers.proofs.packed_number.Tie as tie
 
 returns : tie.Need-returns-in-Length
-returns c = let at_packed : tie.In-Length-2 = search in rw at_packed.packed-1.given.1
+returns c = let at_packed : tie.In-Length-2 = search in rw at_packed.packed.given.1
 
 returns-2 : tie.Need-returns-in-Refused
 returns-2 c = let at-packed2 : tie.In-Refused-2 = search in rw at-packed2.packed-in-Refused-1.given.1

@@ -15,13 +15,13 @@ add-result : tie.Need-overflow_add-result
 add-result c = omega (arith, subst (λ (a : Turned). turned_number (turned_given a) < 256) (the tie.In-Refused-2 (search)).answer-in-Refused-1.given.1 (the tie.Start (search)).requires.1)
 
 returns : tie.Need-returns-in-Idle
-returns c = rw c.enum_told-1.given.1
+returns c = rw c.enum_told.given.1
 
 returns-2 : tie.Need-returns-in-Ran
 returns-2 c =
     let at-answer : tie.In-Ran-2 = search in
     let s : tie.Start = search in
-    rw at-answer.answer-1.given.1 (ap (numbered _) (one-stored s.args.values.now (omega arith) _))
+    rw at-answer.answer.given.1 (ap (numbered _) (one-stored s.args.values.now (omega arith) _))
 
 returns-3 : tie.Need-returns-in-Stood
 returns-3 c =

@@ -4,7 +4,7 @@ use Rattle.answer_numbers.proofs.standing_number.Statement.{statement}
 use Rattle.answer_numbers.proofs.standing_number.Tie as tie
 
 returns : tie.Need-returns-in-At
-returns c = let at-standing : tie.In-At-2 = search in rw at-standing.standing-1.given.1
+returns c = let at-standing : tie.In-At-2 = search in rw at-standing.standing.given.1
 
 returns-2 : tie.Need-returns-in-Refused
 returns-2 c = let at-standing2 : tie.In-Refused-2 = search in rw at-standing2.standing-in-Refused-1.given.1

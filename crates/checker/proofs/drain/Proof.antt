@@ -15,7 +15,7 @@ use Rattle.checker.proofs.drain.Tie as tie
 abbrev lent : tie.Start → Tables
 lent s =
     let a = s.args in
-    tables a.held.now a.timestamps.now a.order.now a.status-1.now a.withdrawn.now a.lengths.now a.programs.now a.reads-1.now a.writes-1.now a.sources-1.now a.seen-1.now a.targets-1.now a.written-1.now a.view-1.now a.versions.now a.cutoff.now a.kept.now
+    tables a.held.now a.timestamps.now a.order.now a.status.now a.withdrawn.now a.lengths.now a.programs.now a.reads.now a.writes.now a.sources.now a.seen.now a.targets.now a.written.now a.view.now a.versions.now a.cutoff.now a.auto.now
 
 -- from a call, or a test, to what stood before it
 abbrev before-length : tie.Else-totals-ne1024 → tie.Start
@@ -89,13 +89,13 @@ drain_spec =
     (λ c κs. tt)
     (λ c κs. (facts (fits (before-clear-u16 (search)))).sizes.held)
     turn-all-requires
-    (λ c. omega (arith, (the tie.After-turn_all (search)).turn_all.kept))
-    (λ c. omega (arith, (the tie.After-turn_all (search)).turn_all.kept))
-    (λ c. omega (arith, (the tie.After-turn_all (search)).turn_all.kept))
-    (λ c. omega (arith, (the tie.After-turn_all (search)).turn_all.kept))
-    (λ c. omega (arith, (the tie.After-turn_all (search)).turn_all.kept))
-    (λ c. omega (arith, (the tie.After-turn_all (search)).turn_all.kept))
-    (λ c. omega (arith, (the tie.After-turn_all (search)).turn_all.kept))
-    (λ c. omega (arith, (the tie.After-turn_all (search)).turn_all.kept))
-    (λ c. let at-turn-all : tie.After-turn_all = search in omega (arith, at-turn-all.turn_all.kept, (before-held-count (before-turn-all at-turn-all)).clear_u16.auto))
+    (λ c. omega (arith, (the tie.After-turn_all (search)).turn_all.auto))
+    (λ c. omega (arith, (the tie.After-turn_all (search)).turn_all.auto))
+    (λ c. omega (arith, (the tie.After-turn_all (search)).turn_all.auto))
+    (λ c. omega (arith, (the tie.After-turn_all (search)).turn_all.auto))
+    (λ c. omega (arith, (the tie.After-turn_all (search)).turn_all.auto))
+    (λ c. omega (arith, (the tie.After-turn_all (search)).turn_all.auto))
+    (λ c. omega (arith, (the tie.After-turn_all (search)).turn_all.auto))
+    (λ c. omega (arith, (the tie.After-turn_all (search)).turn_all.auto))
+    (λ c. let at-turn-all : tie.After-turn_all = search in omega (arith, at-turn-all.turn_all.auto, (before-held-count (before-turn-all at-turn-all)).clear_u16.auto))
     returns-3)

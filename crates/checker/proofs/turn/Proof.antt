@@ -13,7 +13,7 @@ use Rattle.checker.proofs.turn.Tie as tie
 abbrev lent : tie.Start → Tables
 lent s =
     let a = s.args in
-    tables a.held.now a.timestamps.now a.order.now a.status-1.now a.withdrawn.now a.lengths.now a.programs.now a.reads-1.now a.writes-1.now a.sources-1.now a.seen-1.now a.targets-1.now a.written-1.now a.view-1.now a.versions.now a.cutoff.now a.kept.now
+    tables a.held.now a.timestamps.now a.order.now a.status.now a.withdrawn.now a.lengths.now a.programs.now a.reads.now a.writes.now a.sources.now a.seen.now a.targets.now a.written.now a.view.now a.versions.now a.cutoff.now a.auto.now
 
 -- from a call, or a test, to what stood before it
 abbrev before-fault : tie.After-fault-refusal → tie.Start
@@ -71,12 +71,12 @@ turn_spec =
     returns
     (λ c κs. (facts (fits (search))).sizes.held)
     turn-once-requires
-    (λ c. omega (arith, (the tie.After-turn_once (search)).turn_once.kept))
-    (λ c. omega (arith, (the tie.After-turn_once (search)).turn_once.kept))
-    (λ c. omega (arith, (the tie.After-turn_once (search)).turn_once.kept))
-    (λ c. omega (arith, (the tie.After-turn_once (search)).turn_once.kept))
-    (λ c. omega (arith, (the tie.After-turn_once (search)).turn_once.kept))
-    (λ c. omega (arith, (the tie.After-turn_once (search)).turn_once.kept))
-    (λ c. omega (arith, (the tie.After-turn_once (search)).turn_once.kept))
-    (λ c. omega (arith, (the tie.After-turn_once (search)).turn_once.kept))
+    (λ c. omega (arith, (the tie.After-turn_once (search)).turn_once.auto))
+    (λ c. omega (arith, (the tie.After-turn_once (search)).turn_once.auto))
+    (λ c. omega (arith, (the tie.After-turn_once (search)).turn_once.auto))
+    (λ c. omega (arith, (the tie.After-turn_once (search)).turn_once.auto))
+    (λ c. omega (arith, (the tie.After-turn_once (search)).turn_once.auto))
+    (λ c. omega (arith, (the tie.After-turn_once (search)).turn_once.auto))
+    (λ c. omega (arith, (the tie.After-turn_once (search)).turn_once.auto))
+    (λ c. omega (arith, (the tie.After-turn_once (search)).turn_once.auto))
     returns-2)

@@ -65,5 +65,5 @@ clear_changes_spec =
     (λ c. omega (arith, (lengths (search)).clear_u16-5.auto))
     (λ c. omega (arith, (programs (search)).clear_u8.auto))
     (λ c. omega (arith, (versions (search)).clear_u16-6.auto))
-    (λ c. let l : tie.After-clear_u64-2 = search in omega (arith, l.clear_u64-2.kept))
+    (λ c. let l : tie.After-clear_u64-2 = search in omega (arith, l.clear_u64-2.auto))
     returns)

@@ -46,5 +46,5 @@ clear_lists_spec =
     (λ c. omega (arith, (sources (search)).clear_u16-3.auto))
     (λ c. omega (arith, (seen (search)).clear_i32.auto))
     (λ c. omega (arith, (targets (search)).clear_u16-4.auto))
-    (λ c. let l : tie.After-clear_i32-2 = search in omega (arith, l.clear_i32-2.kept))
+    (λ c. let l : tie.After-clear_i32-2 = search in omega (arith, l.clear_i32-2.auto))
     returns)

@@ -20,7 +20,7 @@ abbrev entry : tie.At-loop-j invariant-loop decreases-loop → tie.Start invaria
 entry l = search
 
 -- what the move of a turn relies on
-room : (c : tie.In-loop-j invariant-loop decreases-loop) → let s = entry c.before in let i = get_or s.args.places.now c.before.loop-j.j 0 in (s.args.width * c.before.loop-j.j ≤ s.args.width * i) × (s.args.width * i + s.args.width ≤ length s.args.table-1.now)
+room : (c : tie.In-loop-j invariant-loop decreases-loop) → let s = entry c.before in let i = get_or s.args.places.now c.before.loop-j.j 0 in (s.args.width * c.before.loop-j.j ≤ s.args.width * i) × (s.args.width * i + s.args.width ≤ length s.args.table.now)
 room c = close-room (entry c.before).requires c.before.loop-j.j c.loop-j-test.true
 
 loop-holds : tie.Need-loop-j-init invariant-loop decreases-loop
@@ -38,7 +38,7 @@ loop-again c =
     let turn : tie.In-loop-j invariant-loop decreases-loop = search in
     let at-loop : tie.At-loop-j invariant-loop decreases-loop = search in
     let at-move-i32 : tie.After-move_i32 invariant-loop decreases-loop = search in
-    (omega arith, close-next start.requires turn.loop-j-test.true at-loop.loop-j.invariant.1 (omega (arith, at-move-i32.move_i32.kept)) at-move-i32.move_i32.ensures)
+    (omega arith, close-next start.requires turn.loop-j-test.true at-loop.loop-j.invariant.1 (omega (arith, at-move-i32.move_i32.auto)) at-move-i32.move_i32.ensures)
 
 same_length : tie.Need-shape_of-table invariant-loop decreases-loop
 same_length c =
@@ -46,7 +46,7 @@ same_length c =
     let at-loop : tie.At-loop-j invariant-loop decreases-loop = search in
     let l = at-loop.loop-j in
     let s : tie.Start invariant-loop decreases-loop = search in
-    same_len_mid (s.args.width * s.args.count) (length l.table-1 - s.args.width * s.args.count) l.table-1 at-clear-i32.clear_i32.last.0 at-clear-i32.clear_i32.kept.0 ∙ l.invariant.1.same
+    same_len_mid (s.args.width * s.args.count) (length l.table - s.args.width * s.args.count) l.table at-clear-i32.clear_i32.last.0 at-clear-i32.clear_i32.auto.0 ∙ l.invariant.1.same
 
 returns : tie.Need-returns invariant-loop decreases-loop
 returns c =

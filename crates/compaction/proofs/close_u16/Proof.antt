@@ -19,7 +19,7 @@ abbrev entry : tie.At-loop-j invariant-loop decreases-loop → tie.Start invaria
 entry l = search
 
 -- what the move of a turn relies on
-room : (c : tie.In-loop-j invariant-loop decreases-loop) → let s = entry c.before in let i = get_or s.args.places.now c.before.loop-j.j 0 in (s.args.width * c.before.loop-j.j ≤ s.args.width * i) × (s.args.width * i + s.args.width ≤ length s.args.table-1.now)
+room : (c : tie.In-loop-j invariant-loop decreases-loop) → let s = entry c.before in let i = get_or s.args.places.now c.before.loop-j.j 0 in (s.args.width * c.before.loop-j.j ≤ s.args.width * i) × (s.args.width * i + s.args.width ≤ length s.args.table.now)
 room c = close-room (entry c.before).requires c.before.loop-j.j c.loop-j-test.true
 
 loop-holds : tie.Need-loop-j-init invariant-loop decreases-loop
@@ -39,7 +39,7 @@ loop-again c =
     let turn : tie.In-loop-j invariant-loop decreases-loop = search in
     let at-loop : tie.At-loop-j invariant-loop decreases-loop = search in
     let at-move-u16 : tie.After-move_u16 invariant-loop decreases-loop = search in
-    (omega arith, close-next start.requires turn.loop-j-test.true at-loop.loop-j.invariant.1 (omega (arith, at-move-u16.move_u16.kept)) at-move-u16.move_u16.ensures)
+    (omega arith, close-next start.requires turn.loop-j-test.true at-loop.loop-j.invariant.1 (omega (arith, at-move-u16.move_u16.auto)) at-move-u16.move_u16.ensures)
 
 same_length : tie.Need-shape_of-table invariant-loop decreases-loop
 same_length c =
@@ -47,7 +47,7 @@ same_length c =
     let at-loop : tie.At-loop-j invariant-loop decreases-loop = search in
     let l = at-loop.loop-j in
     let s : tie.Start invariant-loop decreases-loop = search in
-    same_len_mid (s.args.width * s.args.count) (length l.table-1 - s.args.width * s.args.count) l.table-1 at-clear-u16.clear_u16.last.0 at-clear-u16.clear_u16.kept.0 ∙ l.invariant.1.same
+    same_len_mid (s.args.width * s.args.count) (length l.table - s.args.width * s.args.count) l.table at-clear-u16.clear_u16.last.0 at-clear-u16.clear_u16.auto.0 ∙ l.invariant.1.same
 
 returns : tie.Need-returns invariant-loop decreases-loop
 returns c =

@@ -20,7 +20,7 @@ abbrev entry : tie.At-loop-j invariant-loop decreases-loop → tie.Start invaria
 entry l = search
 
 -- the entry that is read is a place below 4,096
-entry-below : (c : tie.In-loop-j invariant-loop decreases-loop) → let l = c.before.loop-j in get_or l.order-1 ((entry c.before).args.first + l.j) 0 < 4096
+entry-below : (c : tie.In-loop-j invariant-loop decreases-loop) → let l = c.before.loop-j in get_or l.order ((entry c.before).args.first + l.j) 0 < 4096
 entry-below c =
     let l = c.before.loop-j in
     let s = entry c.before in
@@ -43,7 +43,7 @@ same_length c =
     let at-loop : tie.At-loop-j invariant-loop decreases-loop = search in
     let l = at-loop.loop-j in
     let s : tie.Start invariant-loop decreases-loop = search in
-    same_len_mid (s.args.count - s.args.first) (length l.order-1 - (s.args.count - s.args.first)) l.order-1 at-clear-u16.clear_u16.last.0 at-clear-u16.clear_u16.kept.0 ∙ l.invariant.1.same
+    same_len_mid (s.args.count - s.args.first) (length l.order - (s.args.count - s.args.first)) l.order at-clear-u16.clear_u16.last.0 at-clear-u16.clear_u16.auto.0 ∙ l.invariant.1.same
 
 returns : tie.Need-returns invariant-loop decreases-loop
 returns c =

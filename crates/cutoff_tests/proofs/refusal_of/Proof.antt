@@ -54,7 +54,7 @@ returns-4 c =
     let at-held-count : tie.After-held_count-count = search in
     let w : tie.After-waiting-found = search in
     let u = stamped (above w) in
-    unsettled-before _ _ _ _ _ _ (formed u).if-fault-ne0.false (is-stamp u) (above w).if-timestamp-cutoff.false at-held-count.held_count-count.ensures at-rank.rank-first.ensures _ (found_at _ w.waiting-found.ensures at-found.found-1.given.1) c.if-k-first.true
+    unsettled-before _ _ _ _ _ _ (formed u).if-fault-ne0.false (is-stamp u) (above w).if-timestamp-cutoff.false at-held-count.held_count-count.ensures at-rank.rank-first.ensures _ (found_at _ w.waiting-found.ensures at-found.found.given.1) c.if-k-first.true
 
 returns-5 : tie.Need-returns-else-k-first
 returns-5 c =
@@ -63,7 +63,7 @@ returns-5 c =
     let at-held-count : tie.After-held_count-count = search in
     let w : tie.After-waiting-found = search in
     let u = stamped (above w) in
-    settled_before _ _ _ _ _ _ (formed u).if-fault-ne0.false (is-stamp u) (above w).if-timestamp-cutoff.false at-held-count.held_count-count.ensures at-rank.rank-first.ensures _ (found_at _ w.waiting-found.ensures at-found.found-1.given.1) c.if-k-first.false
+    settled_before _ _ _ _ _ _ (formed u).if-fault-ne0.false (is-stamp u) (above w).if-timestamp-cutoff.false at-held-count.held_count-count.ensures at-rank.rank-first.ensures _ (found_at _ w.waiting-found.ensures at-found.found.given.1) c.if-k-first.false
 
 returns-6 : tie.Need-returns-in_default
 returns-6 c =
@@ -71,7 +71,7 @@ returns-6 c =
     let at-held-count : tie.After-held_count-count = search in
     let w : tie.After-waiting-found = search in
     let u = stamped (above w) in
-    all_settled _ _ _ _ _ _ (formed u).if-fault-ne0.false (is-stamp u) (above w).if-timestamp-cutoff.false at-held-count.held_count-count.ensures at-rank.rank-first.ensures (found_nothing _ w.waiting-found.ensures c.enum_told-1.given.1)
+    all_settled _ _ _ _ _ _ (formed u).if-fault-ne0.false (is-stamp u) (above w).if-timestamp-cutoff.false at-held-count.held_count-count.ensures at-rank.rank-first.ensures (found_nothing _ w.waiting-found.ensures c.enum_told.given.1)
 
 pub refusal_of_spec : {M : Type 1} → statement M
 refusal_of_spec =

@@ -23,7 +23,7 @@ turn-from-requires c κs =
     let found : tie.In-At-2 = search in
     let at-waiting : tie.After-waiting = search in
     let start = before-waiting at-waiting in
-    (record { others = start.requires.0.others; so = (start.requires.0.so, found_at _ at-waiting.waiting.ensures found.first-1.given.1) }, start.requires.1)
+    (record { others = start.requires.0.others; so = (start.requires.0.so, found_at _ at-waiting.waiting.ensures found.first.given.1) }, start.requires.1)
 
 returns : tie.Need-returns-in-At
 returns c T g =
@@ -34,7 +34,7 @@ returns-2 : tie.Need-returns-in-Nothing
 returns-2 c T g =
     let at-waiting : tie.After-waiting = search in
     let start = before-waiting at-waiting in
-    pass-none g start.requires.1 (found_nothing _ at-waiting.waiting.ensures c.enum_told-1.given.1)
+    pass-none g start.requires.1 (found_nothing _ at-waiting.waiting.ensures c.enum_told.given.1)
 
 pub turn_all_spec : {M : Type 1} → statement M
 turn_all_spec =
@@ -44,15 +44,15 @@ turn_all_spec =
     (λ c. search rules)
     turn-from-requires
     (λ c. search rules)
-    (λ c. omega (arith, (the tie.After-turn_from (search)).turn_from.kept))
-    (λ c. omega (arith, (the tie.After-turn_from (search)).turn_from.kept))
-    (λ c. omega (arith, (the tie.After-turn_from (search)).turn_from.kept))
-    (λ c. omega (arith, (the tie.After-turn_from (search)).turn_from.kept))
-    (λ c. omega (arith, (the tie.After-turn_from (search)).turn_from.kept))
-    (λ c. omega (arith, (the tie.After-turn_from (search)).turn_from.kept))
-    (λ c. omega (arith, (the tie.After-turn_from (search)).turn_from.kept))
-    (λ c. omega (arith, (the tie.After-turn_from (search)).turn_from.kept))
-    (λ c. omega (arith, (the tie.After-turn_from (search)).turn_from.kept))
+    (λ c. omega (arith, (the tie.After-turn_from (search)).turn_from.auto))
+    (λ c. omega (arith, (the tie.After-turn_from (search)).turn_from.auto))
+    (λ c. omega (arith, (the tie.After-turn_from (search)).turn_from.auto))
+    (λ c. omega (arith, (the tie.After-turn_from (search)).turn_from.auto))
+    (λ c. omega (arith, (the tie.After-turn_from (search)).turn_from.auto))
+    (λ c. omega (arith, (the tie.After-turn_from (search)).turn_from.auto))
+    (λ c. omega (arith, (the tie.After-turn_from (search)).turn_from.auto))
+    (λ c. omega (arith, (the tie.After-turn_from (search)).turn_from.auto))
+    (λ c. omega (arith, (the tie.After-turn_from (search)).turn_from.auto))
     returns
     (λ c. refl)
     returns-2)

@@ -19,7 +19,7 @@ decreases-loop count order writes targets written values₀ k₀ values k = coun
 abbrev entry : tie.At-loop-k invariant-loop decreases-loop → tie.Start invariant-loop decreases-loop
 entry l = search
 
-same : (l : tie.At-loop-k invariant-loop decreases-loop) → length l.loop-k.values-1 ≡ length (entry l).args.values-1.now
+same : (l : tie.At-loop-k invariant-loop decreases-loop) → length l.loop-k.values ≡ length (entry l).args.values.now
 same l = ap length l.loop-k.invariant.1 ∙ carried-length _ _ _ _
 
 -- the place of a turn is in the tables

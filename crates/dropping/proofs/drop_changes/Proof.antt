@@ -78,7 +78,7 @@ drop_changes_spec =
     (λ c. omega (arith, (start (search)).requires.0.counted))
     (λ c. omega (arith, (start (search)).requires.0.cut))
     (λ c. length-set (start (search)).args.held.now 0 _)
-    (λ c. let at-renumber : tie.After-renumber = search in omega (arith, at-renumber.renumber.kept-1))
+    (λ c. let at-renumber : tie.After-renumber = search in omega (arith, at-renumber.renumber.auto))
     (λ c. length-set (start (search)).args.cutoff.now 0 _)
     (λ c. omega (arith, (carried (found (search))).carry_first.auto))
     returns)

@@ -46,12 +46,12 @@ turn c = asked (taken c)
 abbrev lent : tie.Start invariant-loop decreases-loop → Tables → Tables
 lent s T =
     let a = s.args in
-    with_lent T a.held-1.now a.timestamps-1.now a.order-1.now a.status-1.now a.withdrawn-1.now a.lengths-1.now a.programs-1.now a.versions-1.now a.cutoff.now
+    with_lent T a.held.now a.timestamps.now a.order.now a.status.now a.withdrawn.now a.lengths.now a.programs.now a.versions.now a.cutoff.now
 
 abbrev current : tie.At-loop-left invariant-loop decreases-loop → Tables → Tables
 current c T =
     let l = c.loop-left in
-    with_lent T l.held-1 l.timestamps-1 l.order-1 l.status-1 l.withdrawn-1 l.lengths-1 l.programs-1 l.versions-1 (start c).args.cutoff.now
+    with_lent T l.held l.timestamps l.order l.status l.withdrawn l.lengths l.programs l.versions (start c).args.cutoff.now
 
 -- ---- what the loop knows
 
@@ -114,13 +114,13 @@ take_entries_spec =
     (λ c. omega (arith, entry-inside (ready (turn (search))), bytes-short (ready (turn (search)))))
     (λ c. omega (arith, more (turn (search)), (counted (turn (search)).before).entry_count-count.ensures))
     loop-again
-    (λ c. (ended (search)).held-1 ∙ sym (begun (start (search))).held-1)
-    (λ c. (ended (search)).timestamps-1 ∙ sym (begun (start (search))).timestamps-1)
-    (λ c. (ended (search)).order-1 ∙ sym (begun (start (search))).order-1)
-    (λ c. (ended (search)).status-1 ∙ sym (begun (start (search))).status-1)
-    (λ c. (ended (search)).withdrawn-1 ∙ sym (begun (start (search))).withdrawn-1)
-    (λ c. (ended (search)).lengths-1 ∙ sym (begun (start (search))).lengths-1)
-    (λ c. (ended (search)).programs-1 ∙ sym (begun (start (search))).programs-1)
-    (λ c. (ended (search)).versions-1 ∙ sym (begun (start (search))).versions-1)
+    (λ c. (ended (search)).held ∙ sym (begun (start (search))).held)
+    (λ c. (ended (search)).timestamps ∙ sym (begun (start (search))).timestamps)
+    (λ c. (ended (search)).order ∙ sym (begun (start (search))).order)
+    (λ c. (ended (search)).status ∙ sym (begun (start (search))).status)
+    (λ c. (ended (search)).withdrawn ∙ sym (begun (start (search))).withdrawn)
+    (λ c. (ended (search)).lengths ∙ sym (begun (start (search))).lengths)
+    (λ c. (ended (search)).programs ∙ sym (begun (start (search))).programs)
+    (λ c. (ended (search)).versions ∙ sym (begun (start (search))).versions)
     (λ c. let at-loop : tie.At-loop-left invariant-loop decreases-loop = search in still-sized (start (search)).requires at-loop.loop-left.invariant.1)
     returns)

@@ -17,7 +17,7 @@ use Rattle.entry.proofs.take_entry.Tie as tie
 abbrev lent : tie.Start → Tables → Tables
 lent s T =
     let a = s.args in
-    with_lent T a.held-1.now a.timestamps-1.now a.order-1.now a.status-1.now a.withdrawn-1.now a.lengths-1.now a.programs-1.now a.versions-1.now a.cutoff.now
+    with_lent T a.held.now a.timestamps.now a.order.now a.status.now a.withdrawn.now a.lengths.now a.programs.now a.versions.now a.cutoff.now
 
 -- ---- the places of the code, from each the one before
 
@@ -83,17 +83,17 @@ take_entry_spec =
     (λ c. search rules)
     (λ c. omega (arith, (ends (search)).0))
     take-item-requires
-    (λ c. omega (arith, (the tie.After-take_item (search)).take_item.kept))
-    (λ c. omega (arith, (the tie.After-take_item (search)).take_item.kept))
-    (λ c. omega (arith, (the tie.After-take_item (search)).take_item.kept))
-    (λ c. omega (arith, (the tie.After-take_item (search)).take_item.kept))
-    (λ c. omega (arith, (the tie.After-take_item (search)).take_item.kept))
-    (λ c. omega (arith, (the tie.After-take_item (search)).take_item.kept))
+    (λ c. omega (arith, (the tie.After-take_item (search)).take_item.auto))
+    (λ c. omega (arith, (the tie.After-take_item (search)).take_item.auto))
+    (λ c. omega (arith, (the tie.After-take_item (search)).take_item.auto))
+    (λ c. omega (arith, (the tie.After-take_item (search)).take_item.auto))
+    (λ c. omega (arith, (the tie.After-take_item (search)).take_item.auto))
+    (λ c. omega (arith, (the tie.After-take_item (search)).take_item.auto))
     returns
     withdraw-item-requires
     (λ c. refl)
     (λ c. refl)
     (λ c. refl)
-    (λ c. omega (arith, (the tie.After-withdraw_item (search)).withdraw_item.kept))
-    (λ c. omega (arith, (the tie.After-withdraw_item (search)).withdraw_item.kept))
+    (λ c. omega (arith, (the tie.After-withdraw_item (search)).withdraw_item.auto))
+    (λ c. omega (arith, (the tie.After-withdraw_item (search)).withdraw_item.auto))
     returns-2)

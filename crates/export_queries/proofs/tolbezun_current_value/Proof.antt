@@ -11,7 +11,7 @@ use Rattle.export_queries.proofs.tolbezun_current_value.Tie as tie
 
 returns : tie.Need-returns
 returns c =
-    to_z-of_z (sfits_of c.value_number.type-inv)
+    to_z-of_z (sfits_of c.value_number.type_inv)
     ∙ of-call (λ (v : Value). value_number (value_given v)) c.value_number.ensures c.before.current_value.ensures
 
 pub tolbezun_current_value_spec : {M : Type 1} → statement M

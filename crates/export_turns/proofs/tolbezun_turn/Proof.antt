@@ -42,5 +42,5 @@ tolbezun_turn_spec =
     (λ c. omega (arith, (called (search)).turn-answer.auto))
     (λ c. omega (arith, (called (search)).turn-answer.auto))
     (λ c. omega (arith, (called (search)).turn-answer.auto))
-    (λ c. omega (arith, (the tie.After-put_turned (search)).put_turned.kept))
+    (λ c. omega (arith, (the tie.After-put_turned (search)).put_turned.auto))
     returns-2)

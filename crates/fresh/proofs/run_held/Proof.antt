@@ -23,7 +23,7 @@ loop-holds c = (omega arith, held_none _ _ _ _)
 abbrev entry : tie.At-loop-k invariant-loop decreases-loop → tie.Start invariant-loop decreases-loop
 entry c = search
 
-same_length : (c : tie.At-loop-k invariant-loop decreases-loop) → length c.loop-k.values-1 ≡ length (entry c).args.values-1.now
+same_length : (c : tie.At-loop-k invariant-loop decreases-loop) → length c.loop-k.values ≡ length (entry c).args.values.now
 same_length c = ap length c.loop-k.invariant.1 ∙ length-held _ _ _ _ _
 
 -- the place of a turn is below the limit, and its program is short

@@ -21,10 +21,10 @@ abbrev entry : tie.After-x-1 → tie.Start
 entry c = search
 
 b-fits : (c : tie.After-x-1) → SFits w32 (register_in (entry c).args.run.registers (entry c).args.i.b)
-b-fits c = record { sfits = c.x-1.given }
+b-fits c = record { sfits = c.x.given }
 
 c-fits : (c : tie.After-y-1) → SFits w32 (register_in (entry (search)).args.run.registers (entry (search)).args.i.c)
-c-fits c = record { sfits = c.y-1.given }
+c-fits c = record { sfits = c.y.given }
 
 returns : tie.Need-returns-then-k-eq0
 unfolding effect
@@ -39,25 +39,25 @@ returns-2 : tie.Need-returns-then-k-lt11
 returns-2 c =
     let y : tie.After-y-1 = search in
     let s = entry (search) in
-    ap (Assign s.args.i.a) (read_back (result_of s.args.i.operation) (n-fits s) (b-fits (search)) (c-fits y) (sfits_of c.result.type-inv) c.result.ensures)
+    ap (Assign s.args.i.a) (read_back (result_of s.args.i.operation) (n-fits s) (b-fits (search)) (c-fits y) (sfits_of c.result.type_inv) c.result.ensures)
     ∙ sym (effect-assigns s.args.i s.args.run.registers (omega arith) (omega arith))
 
 returns-3 : tie.Need-returns-then-k-lt13
 returns-3 c =
     let x : tie.After-x-1 = search in
-    rw (to_z-of_z (sfits_of c.pick.type-inv), c.pick.ensures, to_z-of_z (b-fits x), to_z-of_z (n-fits (entry x))) (sym (effect-loads _ _ (omega arith) (omega arith)))
+    rw (to_z-of_z (sfits_of c.pick.type_inv), c.pick.ensures, to_z-of_z (b-fits x), to_z-of_z (n-fits (entry x))) (sym (effect-loads _ _ (omega arith) (omega arith)))
 
 returns-4 : tie.Need-returns-then-k-lt15
 returns-4 c =
     let z : tie.After-z-1 = search in
     let x : tie.After-x-1 = search in
-    rw (to_z-of_z {w = w32} {z = c.pick-then-k-lt15.result} (sfits_of c.pick-then-k-lt15.type-inv), c.pick-then-k-lt15.ensures, to_z-of_z (b-fits x), to_z-of_z (n-fits (entry x)), to_z-of_z (sfits_of z.z-1.given)) (sym (effect-stores _ _ (omega arith) (omega arith)))
+    rw (to_z-of_z {w = w32} {z = c.pick-then-k-lt15.result} (sfits_of c.pick-then-k-lt15.type_inv), c.pick-then-k-lt15.ensures, to_z-of_z (b-fits x), to_z-of_z (n-fits (entry x)), to_z-of_z (sfits_of z.z.given)) (sym (effect-stores _ _ (omega arith) (omega arith)))
 
 returns-5 : tie.Need-returns
 returns-5 c =
     let x : tie.After-x-1 = search in
     let s = entry x in
-    ap Skip (read_back (λ n x y. distance_of s.args.i.operation n x) (n-fits s) (b-fits x) (b-fits x) (sfits_of c.distance.type-inv) c.distance.ensures)
+    ap Skip (read_back (λ n x y. distance_of s.args.i.operation n x) (n-fits s) (b-fits x) (b-fits x) (sfits_of c.distance.type_inv) c.distance.ensures)
     ∙ sym (effect-skips s.args.i s.args.run.registers (omega arith) (omega arith))
 
 pub effect_spec : {M : Type 1} → statement M

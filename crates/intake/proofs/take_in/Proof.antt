@@ -15,7 +15,7 @@ use Rattle.intake.proofs.take_in.Tie as tie
 abbrev lent : tie.Start → Tables
 lent s =
     let a = s.args in
-    tables a.held-1.now a.timestamps-1.now a.order-1.now a.status.now a.withdrawn.now a.lengths-1.now a.programs-1.now a.reads.now a.writes.now a.sources.now a.seen.now a.targets.now a.written.now a.view.now a.versions-1.now a.cutoff.now a.kept.now
+    tables a.held.now a.timestamps.now a.order.now a.status.now a.withdrawn.now a.lengths.now a.programs.now a.reads.now a.writes.now a.sources.now a.seen.now a.targets.now a.written.now a.view.now a.versions.now a.cutoff.now a.auto.now
 
 -- ---- the places of the code, from each the one before
 
@@ -61,10 +61,10 @@ take_in_spec =
     (λ c. refl)
     returns
     take-item-requires
-    (λ c. omega (arith, (the tie.After-take_item (search)).take_item.kept))
-    (λ c. omega (arith, (the tie.After-take_item (search)).take_item.kept))
-    (λ c. omega (arith, (the tie.After-take_item (search)).take_item.kept))
-    (λ c. omega (arith, (the tie.After-take_item (search)).take_item.kept))
-    (λ c. omega (arith, (the tie.After-take_item (search)).take_item.kept))
-    (λ c. omega (arith, (the tie.After-take_item (search)).take_item.kept))
+    (λ c. omega (arith, (the tie.After-take_item (search)).take_item.auto))
+    (λ c. omega (arith, (the tie.After-take_item (search)).take_item.auto))
+    (λ c. omega (arith, (the tie.After-take_item (search)).take_item.auto))
+    (λ c. omega (arith, (the tie.After-take_item (search)).take_item.auto))
+    (λ c. omega (arith, (the tie.After-take_item (search)).take_item.auto))
+    (λ c. omega (arith, (the tie.After-take_item (search)).take_item.auto))
     returns-2)

@@ -14,7 +14,7 @@ use Rattle.intake.proofs.withdraw.Tie as tie
 abbrev lent : tie.Start → Tables
 lent s =
     let a = s.args in
-    tables a.held.now a.timestamps.now a.order.now a.status-1.now a.withdrawn-1.now a.lengths.now a.programs.now a.reads.now a.writes.now a.sources.now a.seen.now a.targets.now a.written.now a.view.now a.versions.now a.cutoff.now a.kept.now
+    tables a.held.now a.timestamps.now a.order.now a.status.now a.withdrawn.now a.lengths.now a.programs.now a.reads.now a.writes.now a.sources.now a.seen.now a.targets.now a.written.now a.view.now a.versions.now a.cutoff.now a.auto.now
 
 -- ---- the places of the code, from each the one before
 
@@ -56,6 +56,6 @@ withdraw_spec =
     (λ c. refl)
     returns
     withdraw-item-requires
-    (λ c. omega (arith, (the tie.After-withdraw_item (search)).withdraw_item.kept))
-    (λ c. omega (arith, (the tie.After-withdraw_item (search)).withdraw_item.kept))
+    (λ c. omega (arith, (the tie.After-withdraw_item (search)).withdraw_item.auto))
+    (λ c. omega (arith, (the tie.After-withdraw_item (search)).withdraw_item.auto))
     returns-2)

@@ -9,7 +9,7 @@ use Rattle.intake_anew.proofs.take_in_anew.Tie as tie
 abbrev lent : tie.Start → Tables
 lent s =
     let a = s.args in
-    tables a.held-1.now a.timestamps-1.now a.order-1.now a.status-1.now a.withdrawn-1.now a.lengths-1.now a.programs-1.now a.reads-1.now a.writes-1.now a.sources-1.now a.seen-1.now a.targets-1.now a.written-1.now a.view-1.now a.versions-1.now a.cutoff-1.now a.kept-1.now
+    tables a.held.now a.timestamps.now a.order.now a.status.now a.withdrawn.now a.lengths.now a.programs.now a.reads.now a.writes.now a.sources.now a.seen.now a.targets.now a.written.now a.view.now a.versions.now a.cutoff.now a.auto.now
 
 -- the entry, from the call of set up
 abbrev entry : tie.After-set_up → tie.Start
@@ -30,7 +30,7 @@ returns c =
     let t : tie.After-take_in_package = search in
     let p = prepared t in
     let s = entry p in
-    taken_in s.args.n (lent s) s.args.bytes.now s.args.answers-1.now p.set_up.ensures t.take_in_package.ensures
+    taken_in s.args.n (lent s) s.args.bytes.now s.args.answers.now p.set_up.ensures t.take_in_package.ensures
 
 pub take_in_anew_spec : {M : Type 1} → statement M
 take_in_anew_spec =
@@ -38,13 +38,13 @@ take_in_anew_spec =
     (tie.spec
     (λ c κs. tt)
     (λ c κs. tt)
-    (λ c. omega (arith, (prepared (search)).set_up.auto, (the tie.After-take_in_package (search)).take_in_package.kept-1))
-    (λ c. omega (arith, (prepared (search)).set_up.auto, (the tie.After-take_in_package (search)).take_in_package.kept-1))
-    (λ c. omega (arith, (prepared (search)).set_up.auto, (the tie.After-take_in_package (search)).take_in_package.kept-1))
-    (λ c. omega (arith, (prepared (search)).set_up.auto, (the tie.After-take_in_package (search)).take_in_package.kept-1))
-    (λ c. omega (arith, (prepared (search)).set_up.auto, (the tie.After-take_in_package (search)).take_in_package.kept-1))
-    (λ c. omega (arith, (prepared (search)).set_up.auto, (the tie.After-take_in_package (search)).take_in_package.kept-1))
-    (λ c. omega (arith, (prepared (search)).set_up.auto, (the tie.After-take_in_package (search)).take_in_package.kept-1))
+    (λ c. omega (arith, (prepared (search)).set_up.auto, (the tie.After-take_in_package (search)).take_in_package.auto))
+    (λ c. omega (arith, (prepared (search)).set_up.auto, (the tie.After-take_in_package (search)).take_in_package.auto))
+    (λ c. omega (arith, (prepared (search)).set_up.auto, (the tie.After-take_in_package (search)).take_in_package.auto))
+    (λ c. omega (arith, (prepared (search)).set_up.auto, (the tie.After-take_in_package (search)).take_in_package.auto))
+    (λ c. omega (arith, (prepared (search)).set_up.auto, (the tie.After-take_in_package (search)).take_in_package.auto))
+    (λ c. omega (arith, (prepared (search)).set_up.auto, (the tie.After-take_in_package (search)).take_in_package.auto))
+    (λ c. omega (arith, (prepared (search)).set_up.auto, (the tie.After-take_in_package (search)).take_in_package.auto))
     (λ c. omega (arith, (prepared (search)).set_up.auto))
     (λ c. omega (arith, (prepared (search)).set_up.auto))
     (λ c. omega (arith, (prepared (search)).set_up.auto))
@@ -52,8 +52,8 @@ take_in_anew_spec =
     (λ c. omega (arith, (prepared (search)).set_up.auto))
     (λ c. omega (arith, (prepared (search)).set_up.auto))
     (λ c. omega (arith, (prepared (search)).set_up.auto))
-    (λ c. omega (arith, (prepared (search)).set_up.auto, (the tie.After-take_in_package (search)).take_in_package.kept-1))
+    (λ c. omega (arith, (prepared (search)).set_up.auto, (the tie.After-take_in_package (search)).take_in_package.auto))
     (λ c. omega (arith, (prepared (search)).set_up.auto))
     (λ c. omega (arith, (prepared (search)).set_up.auto))
-    (λ c. omega (arith, (the tie.After-take_in_package (search)).take_in_package.kept-1))
+    (λ c. omega (arith, (the tie.After-take_in_package (search)).take_in_package.auto))
     returns)

@@ -28,7 +28,7 @@ returns c =
     let a = start.args in
     let l = at-loop.loop-i in
     let e : a.count ≡ l.i = omega arith in
-    rw e (copied_all a.list.now a.lent-1.now l.i l.invariant.2 (omega arith))
+    rw e (copied_all a.list.now a.lent.now l.i l.invariant.2 (omega arith))
 
 pub copy_settings_spec : {M : Type 1} → statement M
 copy_settings_spec =

@@ -32,7 +32,7 @@ targets-copied c = search
 
 -- the lent lists at entry
 abbrev lent : tie.Start → Lists
-lent s = lists s.args.sources-1.now s.args.seen-1.now s.args.targets-1.now s.args.written-1.now
+lent s = lists s.args.sources.now s.args.seen.now s.args.targets.now s.args.written.now
 
 returns : tie.Need-returns-then-refusal-ne0
 returns c =
@@ -48,22 +48,22 @@ run-program-requires : tie.Need-run_program-run-requires
 run-program-requires c κs = let h = accepted (passed c) in (h.1, h.2, search rules)
 
 copy-settings-requires : tie.Need-copy_settings-requires
-copy-settings-requires c κs = let r : tie.After-run_program-run = search in (r.run_program-run.ensures.reads, r.run_program-run.ensures.sized.sources-1, (accepted (passed (search))).0.sources-1)
+copy-settings-requires c κs = let r : tie.After-run_program-run = search in (r.run_program-run.ensures.reads, r.run_program-run.ensures.sized.sources, (accepted (passed (search))).0.sources)
 
 copy-values-requires : tie.Need-copy_values-requires
 copy-values-requires c κs =
     let r = has-run (search) in
-    (r.run_program-run.ensures.reads, r.run_program-run.ensures.sized.seen-1, (accepted (passed (search))).0.seen-1)
+    (r.run_program-run.ensures.reads, r.run_program-run.ensures.sized.seen, (accepted (passed (search))).0.seen)
 
 copy-settings-requires-2 : tie.Need-copy_settings-requires-2
 copy-settings-requires-2 c κs =
     let r = has-run (reads-copied (search)) in
-    (r.run_program-run.ensures.writes, r.run_program-run.ensures.sized.targets-1, (accepted (passed (search))).0.targets-1)
+    (r.run_program-run.ensures.writes, r.run_program-run.ensures.sized.targets, (accepted (passed (search))).0.targets)
 
 copy-values-requires-2 : tie.Need-copy_values-requires-2
 copy-values-requires-2 c κs =
     let r = has-run (reads-copied (seen-copied (search))) in
-    (r.run_program-run.ensures.writes, r.run_program-run.ensures.sized.written-1, (accepted (passed (search))).0.written-1)
+    (r.run_program-run.ensures.writes, r.run_program-run.ensures.sized.written, (accepted (passed (search))).0.written)
 
 number-of-requires : tie.Need-number_of-requires
 number-of-requires c κs =

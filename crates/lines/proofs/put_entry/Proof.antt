@@ -16,7 +16,7 @@ returns c =
     let o = (the tie.After-put_outcome-end (search)).put_outcome-end.ensures in
     let p3 = (the tie.After-put (search)).put.ensures in
     let s : tie.Start = search in
-    let room : s.args.at ≤ length s.args.text-1.now = omega (arith, s.requires) in
+    let room : s.args.at ≤ length s.args.text.now = omega (arith, s.requires) in
     (put_then (put_then (put_then (put_then p room q.0) room p2) room o.0) room p3, omega (arith, p.ends, q.1, p2.ends, o.1, p3.ends))
 
 pub put_entry_spec : {M : Type 1} → statement M

@@ -20,7 +20,7 @@ returns c =
     let q2 = (the tie.After-put_number-end-2 (search)).put_number-end-2.ensures in
     let p3 = (the tie.After-put (search)).put.ensures in
     let s : tie.Start = search in
-    let room : s.args.at ≤ length s.args.text-1.now = omega (arith, s.requires) in
+    let room : s.args.at ≤ length s.args.text.now = omega (arith, s.requires) in
     let line = put_then (put_then (put_then (put_then p room q.0) room p2) room q2.0) room p3 in
     let same = append_assoc (ascii "turn " ++ decimal s.args.timestamp) (ascii " faulted ") (decimal s.args.place) in
     (put_as line (ap (λ (l : List ℕ). l ++ ascii "\n") same), omega (arith, p.ends, q.1, p2.ends, q2.1, p3.ends))

@@ -14,7 +14,7 @@ returns c =
     let q = (the tie.After-put_number-end (search)).put_number-end.ensures in
     let p2 = (the tie.After-put (search)).put.ensures in
     let s : tie.Start = search in
-    let room : s.args.at ≤ length s.args.text-1.now = omega (arith, s.requires) in
+    let room : s.args.at ≤ length s.args.text.now = omega (arith, s.requires) in
     (put_then (put_then p room q.0) room p2, omega (arith, p.ends, q.1, p2.ends))
 
 pub put_refusal_spec : {M : Type 1} → statement M

@@ -12,7 +12,7 @@ use Rattle.lines.proofs.put_setting.Tie as tie
 returns : tie.Need-returns-then-value-start
 returns c =
     let s : tie.Start = search in
-    (put_as (put-nothing s.args.at s.args.text-1.now) (setting-none s.args.setting s.args.start s.fits.value s.fits.start c.if-value-start.true), omega arith)
+    (put_as (put-nothing s.args.at s.args.text.now) (setting-none s.args.setting s.args.start s.fits.value s.fits.start c.if-value-start.true), omega arith)
 
 returns-2 : tie.Need-returns
 returns-2 c =
@@ -23,7 +23,7 @@ returns-2 c =
     let p3 = (the tie.After-put (search)).put.ensures in
     let t : tie.Else-value-start = search in
     let s : tie.Start = search in
-    let room : s.args.at ≤ length s.args.text-1.now = omega (arith, s.requires) in
+    let room : s.args.at ≤ length s.args.text.now = omega (arith, s.requires) in
     let e = setting-some s.args.setting s.args.start s.fits.value t.if-value-start.false in
     (put_as (put_then (put_then (put_then (put_then p room q.0) room p2) room v.0) room p3) e, omega (arith, p.ends, q.1, p2.ends, v.1, p3.ends))
 

@@ -10,14 +10,14 @@ use Rattle.lines.proofs.put_turn.Tie as tie
 returns : tie.Need-returns-in-Idle
 returns c =
     let s : tie.Start = search in
-    (put_as (put-nothing s.args.at s.args.text-1.now) (ap turn_line (sym c.enum_told-1.given.1)), omega arith)
+    (put_as (put-nothing s.args.at s.args.text.now) (ap turn_line (sym c.enum_told.given.1)), omega arith)
 
 returns-2 : tie.Need-returns-in-Ran
 returns-2 c =
     let at-put-turn-of : tie.After-put_turn_of = search in
     let at-answer : tie.In-Ran-2 = search in
     let q = at-put-turn-of.put_turn_of.ensures in
-    (put_as q.0 (ap turn_line (sym at-answer.answer-1.given.1)), q.1)
+    (put_as q.0 (ap turn_line (sym at-answer.answer.given.1)), q.1)
 
 returns-3 : tie.Need-returns-in-Stood
 returns-3 c =
@@ -43,7 +43,7 @@ returns-5 c =
 returns-6 : tie.Need-returns-in-Refused
 returns-6 c =
     let s : tie.Start = search in
-    (put_as (put-nothing s.args.at s.args.text-1.now) (ap turn_line (sym c.enum_told-in-Refused-1.given.1)), omega arith)
+    (put_as (put-nothing s.args.at s.args.text.now) (ap turn_line (sym c.enum-told2.given.1)), omega arith)
 
 pub put_turn_spec : {M : Type 1} → statement M
 put_turn_spec =

@@ -15,7 +15,7 @@ returns c =
     let p2 = (the tie.After-put-end-2 (search)).put-end-2.ensures in
     let p3 = (the tie.After-put (search)).put.ensures in
     let s : tie.Start = search in
-    let room : s.args.at ≤ length s.args.text-1.now = omega (arith, s.requires.1) in
+    let room : s.args.at ≤ length s.args.text.now = omega (arith, s.requires.1) in
     (put_then (put_then (put_then p room q.0) room p2) room p3, omega (arith, p.ends, q.1, p2.ends, p3.ends, s.requires.0))
 
 pub put_turn_of_spec : {M : Type 1} → statement M

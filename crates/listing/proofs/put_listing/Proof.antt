@@ -10,7 +10,7 @@ use Rattle.listing.proofs.put_listing.Tie as tie
 abbrev lent : tie.Start → Tables
 lent s =
     let a = s.args in
-    tables a.held-1.now a.timestamps-1.now a.order-1.now a.status-1.now a.withdrawn-1.now a.lengths-1.now a.programs-1.now a.reads-1.now a.writes-1.now a.sources-1.now a.seen-1.now a.targets-1.now a.written-1.now a.view-1.now a.versions-1.now a.cutoff-1.now a.kept-1.now
+    tables a.held.now a.timestamps.now a.order.now a.status.now a.withdrawn.now a.lengths.now a.programs.now a.reads.now a.writes.now a.sources.now a.seen.now a.targets.now a.written.now a.view.now a.versions.now a.cutoff.now a.auto.now
 
 -- ---- the places of the code, from each the one before
 
@@ -44,7 +44,7 @@ put-reply-requires c κs =
     let l : tie.After-answers-1 = search in
     let t = taken l in
     let s = entry t in
-    (package-answered (lent s) s.requires.kept_value s.args.bytes.now s.args.answers-1.now t.take_in_anew-answer.ensures s.requires.answers_len.0, (omega (arith, t.take_in_anew-answer.kept-1, s.requires.answers_len.0), s.requires.answers_len.1))
+    (package-answered (lent s) s.requires.kept_value s.args.bytes.now s.args.answers.now t.take_in_anew-answer.ensures s.requires.answers_len.0, (omega (arith, t.take_in_anew-answer.auto, s.requires.answers_len.0), s.requires.answers_len.1))
 
 returns : tie.Need-returns
 returns c =
@@ -52,8 +52,8 @@ returns c =
     let p = r.put_reply in
     let t = taken (answered r) in
     let s = entry t in
-    let l = listed (lent s) s.requires.kept_value s.args.bytes.now s.args.answers-1.now t.take_in_anew-answer.ensures p.ensures.fact in
-    (l, prefix_len_of_le _ _ (omega (arith, p.ensures.upper_bound, p.kept-1, s.requires.answers_len.1)))
+    let l = listed (lent s) s.requires.kept_value s.args.bytes.now s.args.answers.now t.take_in_anew-answer.ensures p.ensures.fact in
+    (l, prefix_len_of_le _ _ (omega (arith, p.ensures.upper_bound, p.auto, s.requires.answers_len.1)))
 
 pub put_listing_spec : {M : Type 1} → statement M
 put_listing_spec =
@@ -64,20 +64,20 @@ put_listing_spec =
     (λ c. omega (arith, (taken (answered (search))).take_in_anew-answer.auto))
     (λ c. omega (arith, (taken (answered (search))).take_in_anew-answer.auto))
     (λ c. omega (arith, (taken (answered (search))).take_in_anew-answer.auto))
-    (λ c. omega (arith, (taken (answered (search))).take_in_anew-answer.auto, (the tie.After-put_reply (search)).put_reply.kept-1))
+    (λ c. omega (arith, (taken (answered (search))).take_in_anew-answer.auto, (the tie.After-put_reply (search)).put_reply.auto))
     (λ c. omega (arith, (taken (answered (search))).take_in_anew-answer.auto))
     (λ c. omega (arith, (taken (answered (search))).take_in_anew-answer.auto))
     (λ c. omega (arith, (taken (answered (search))).take_in_anew-answer.auto))
-    (λ c. omega (arith, (taken (answered (search))).take_in_anew-answer.auto, (the tie.After-put_reply (search)).put_reply.kept-1))
-    (λ c. omega (arith, (taken (answered (search))).take_in_anew-answer.auto, (the tie.After-put_reply (search)).put_reply.kept-1))
-    (λ c. omega (arith, (taken (answered (search))).take_in_anew-answer.auto, (the tie.After-put_reply (search)).put_reply.kept-1))
-    (λ c. omega (arith, (taken (answered (search))).take_in_anew-answer.auto, (the tie.After-put_reply (search)).put_reply.kept-1))
-    (λ c. omega (arith, (taken (answered (search))).take_in_anew-answer.auto, (the tie.After-put_reply (search)).put_reply.kept-1))
-    (λ c. omega (arith, (taken (answered (search))).take_in_anew-answer.auto, (the tie.After-put_reply (search)).put_reply.kept-1))
-    (λ c. omega (arith, (taken (answered (search))).take_in_anew-answer.auto, (the tie.After-put_reply (search)).put_reply.kept-1))
+    (λ c. omega (arith, (taken (answered (search))).take_in_anew-answer.auto, (the tie.After-put_reply (search)).put_reply.auto))
+    (λ c. omega (arith, (taken (answered (search))).take_in_anew-answer.auto, (the tie.After-put_reply (search)).put_reply.auto))
+    (λ c. omega (arith, (taken (answered (search))).take_in_anew-answer.auto, (the tie.After-put_reply (search)).put_reply.auto))
+    (λ c. omega (arith, (taken (answered (search))).take_in_anew-answer.auto, (the tie.After-put_reply (search)).put_reply.auto))
+    (λ c. omega (arith, (taken (answered (search))).take_in_anew-answer.auto, (the tie.After-put_reply (search)).put_reply.auto))
+    (λ c. omega (arith, (taken (answered (search))).take_in_anew-answer.auto, (the tie.After-put_reply (search)).put_reply.auto))
+    (λ c. omega (arith, (taken (answered (search))).take_in_anew-answer.auto, (the tie.After-put_reply (search)).put_reply.auto))
     (λ c. omega (arith, (taken (answered (search))).take_in_anew-answer.auto))
     (λ c. omega (arith, (taken (answered (search))).take_in_anew-answer.auto))
     (λ c. omega (arith, (taken (answered (search))).take_in_anew-answer.auto))
     (λ c. omega (arith, (taken (answered (search))).take_in_anew-answer.auto))
-    (λ c. omega (arith, (the tie.After-put_reply (search)).put_reply.kept-1))
+    (λ c. omega (arith, (the tie.After-put_reply (search)).put_reply.auto))
     returns)

@@ -42,7 +42,7 @@ ends m =
     l.invariant.put-end.ends ∙ ap (λ (n : ℕ). s.args.at + n) (bodies-length s.args.order.now s.args.lengths.now s.args.programs.now s.requires.2 s.requires.1 s.args.count s.requires.0 l.k l.invariant.within)
 
 -- it fits behind them
-room : (m : tie.In-loop-k invariant-loop decreases-loop) → let a = (entry m.before).args in let l = m.before.loop-k in l.end + length (body_in a.order.now a.lengths.now a.programs.now l.k) ≤ length l.bytes-1
+room : (m : tie.In-loop-k invariant-loop decreases-loop) → let a = (entry m.before).args in let l = m.before.loop-k in l.end + length (body_in a.order.now a.lengths.now a.programs.now l.k) ≤ length l.bytes
 room m =
     let s = entry m.before in
     let l = m.before.loop-k in
@@ -56,7 +56,7 @@ loop-again c =
     let p : tie.After-put-end invariant-loop decreases-loop = search in
     let m : tie.In-loop-k invariant-loop decreases-loop = search in
     let q = rw used-part at p.put-end.ensures in
-    below_next m.before.loop-k.invariant m.loop-k-test.true (omega (arith, (entry m.before).requires.3)) q (omega (arith, q.ends, long m, (known m).1)) (omega (arith, p.put-end.kept))
+    below_next m.before.loop-k.invariant m.loop-k-test.true (omega (arith, (entry m.before).requires.3)) q (omega (arith, q.ends, long m, (known m).1)) (omega (arith, p.put-end.auto))
 
 pub put_bodies_spec : {M : Type 1} → statement M
 put_bodies_spec =

@@ -37,7 +37,7 @@ loop-again : tie.Need-loop-k-preserved invariant-loop decreases-loop
 loop-again c =
     let p : tie.After-put_entry-end invariant-loop decreases-loop = search in
     let m : tie.In-loop-k invariant-loop decreases-loop = search in
-    below_next m.before.loop-k.invariant m.loop-k-test.true (omega (arith, (entry m.before).requires.5)) p.put_entry-end.ensures (omega (arith, p.put_entry-end.ensures.ends)) (omega (arith, p.put_entry-end.kept))
+    below_next m.before.loop-k.invariant m.loop-k-test.true (omega (arith, (entry m.before).requires.5)) p.put_entry-end.ensures (omega (arith, p.put_entry-end.ensures.ends)) (omega (arith, p.put_entry-end.auto))
 
 pub put_changes_spec : {M : Type 1} → statement M
 put_changes_spec =

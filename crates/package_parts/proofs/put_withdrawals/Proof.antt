@@ -45,7 +45,7 @@ loop-again c =
     let s = entry m.before in
     let place = get_or s.args.order.now m.before.loop-k.k 0 in
     let long = withdrawal-length (get_or s.args.withdrawn.now place 0) (get_or s.args.timestamps.now place 0) (s.requires.2.each place) in
-    below_next m.before.loop-k.invariant m.loop-k-test.true (omega (arith, s.requires.3)) p.put_withdrawal-end.ensures (omega (arith, p.put_withdrawal-end.ensures.ends, long, s.requires.2.each place)) (omega (arith, p.put_withdrawal-end.kept))
+    below_next m.before.loop-k.invariant m.loop-k-test.true (omega (arith, s.requires.3)) p.put_withdrawal-end.ensures (omega (arith, p.put_withdrawal-end.ensures.ends, long, s.requires.2.each place)) (omega (arith, p.put_withdrawal-end.auto))
 
 pub put_withdrawals_spec : {M : Type 1} → statement M
 put_withdrawals_spec =

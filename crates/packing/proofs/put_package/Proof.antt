@@ -43,8 +43,8 @@ sized : (c : tie.After-total-2) → let a = (entry c).args in 2 + 12 * (a.count 
 sized c = omega (arith, counted (search), c.total-2.ensures, package-length (entry c).requires)
 
 -- within its limits and the slice
-fits : (c : tie.Else-not-entries-size) → let a = (entry c.before).args in (a.count + c.before.before.total.result ≤ 512) × (2 + 12 * (a.count + c.before.before.total.result) + 8 * c.before.total-2.result ≤ 65535) × (2 + 12 * (a.count + c.before.before.total.result) + 8 * c.before.total-2.result ≤ length a.bytes-1.now)
-fits c = limits (entry c.before).requires (entry c.before).args.bytes-1.now (counted (search)) (sized c.before) (not-false _ c.if-not-entries-size.false)
+fits : (c : tie.Else-not-entries-size) → let a = (entry c.before).args in (a.count + c.before.before.total.result ≤ 512) × (2 + 12 * (a.count + c.before.before.total.result) + 8 * c.before.total-2.result ≤ 65535) × (2 + 12 * (a.count + c.before.before.total.result) + 8 * c.before.total-2.result ≤ length a.bytes.now)
+fits c = limits (entry c.before).requires (entry c.before).args.bytes.now (counted (search)) (sized c.before) (not-false _ c.if-not-entries-size.false)
 
 total-requires : tie.Need-total-requires
 total-requires c κs =
@@ -72,7 +72,7 @@ put-changes-requires c κs =
     let n : tie.After-put_little_endian-end = search in
     let e = tested n in
     let h = (entry e.before).requires in
-    (h.placed, h.sizes, h.short, h.versioned, h.version, omega (arith, n.put_little_endian-end.ensures.ends, n.put_little_endian-end.kept, (fits e).2))
+    (h.placed, h.sizes, h.short, h.versioned, h.version, omega (arith, n.put_little_endian-end.ensures.ends, n.put_little_endian-end.auto, (fits e).2))
 
 put-withdrawals-requires : tie.Need-put_withdrawals-end-requires
 put-withdrawals-requires c κs =
@@ -81,7 +81,7 @@ put-withdrawals-requires c κs =
     let e = tested n in
     let s = entry e.before in
     let h = s.requires in
-    (h.placed, h.flags, h.flag, omega (arith, n.put_little_endian-end.ensures.ends, n.put_little_endian-end.kept, p.put_changes-end.ensures.ends, p.put_changes-end.kept, changes-length s.args.order.now s.args.timestamps.now s.args.lengths.now s.args.versions.now s.args.count, (the tie.After-total (search)).total.ensures, (fits e).2))
+    (h.placed, h.flags, h.flag, omega (arith, n.put_little_endian-end.ensures.ends, n.put_little_endian-end.auto, p.put_changes-end.ensures.ends, p.put_changes-end.auto, changes-length s.args.order.now s.args.timestamps.now s.args.lengths.now s.args.versions.now s.args.count, (the tie.After-total (search)).total.ensures, (fits e).2))
 
 put-bodies-requires : tie.Need-put_bodies-end-requires
 put-bodies-requires c κs =
@@ -91,10 +91,10 @@ put-bodies-requires c κs =
     let e = tested n in
     let s = entry e.before in
     let h = s.requires in
-    (rw h.sizes h.placed, h.blocks ∙ ap (256 *◌) (sym h.sizes), h.short, omega (arith, n.put_little_endian-end.ensures.ends, n.put_little_endian-end.kept, p.put_changes-end.ensures.ends, p.put_changes-end.kept, w.put_withdrawals-end.ensures.ends, w.put_withdrawals-end.kept, changes-length s.args.order.now s.args.timestamps.now s.args.lengths.now s.args.versions.now s.args.count, withdrawals-length s.args.order.now s.args.timestamps.now s.args.withdrawn.now h.flag s.args.count, (the tie.After-total (search)).total.ensures, e.before.total-2.ensures, (fits e).2))
+    (rw h.sizes h.placed, h.blocks ∙ ap (256 *◌) (sym h.sizes), h.short, omega (arith, n.put_little_endian-end.ensures.ends, n.put_little_endian-end.auto, p.put_changes-end.ensures.ends, p.put_changes-end.auto, w.put_withdrawals-end.ensures.ends, w.put_withdrawals-end.auto, changes-length s.args.order.now s.args.timestamps.now s.args.lengths.now s.args.versions.now s.args.count, withdrawals-length s.args.order.now s.args.timestamps.now s.args.withdrawn.now h.flag s.args.count, (the tie.After-total (search)).total.ensures, e.before.total-2.ensures, (fits e).2))
 
 -- the whole package
-put : (c : tie.After-put_bodies-end) → let w = cleared c in let p = changed w in let n = numbered p in let a = (entry (tested n).before).args in Put 0 (package_in a.order.now a.timestamps.now a.withdrawn.now a.lengths.now a.programs.now a.versions.now a.count) a.bytes-1.now c.put_bodies-end.new.1.1.1.1.0 c.put_bodies-end.result
+put : (c : tie.After-put_bodies-end) → let w = cleared c in let p = changed w in let n = numbered p in let a = (entry (tested n).before).args in Put 0 (package_in a.order.now a.timestamps.now a.withdrawn.now a.lengths.now a.programs.now a.versions.now a.count) a.bytes.now c.put_bodies-end.new.1.1.1.1.0 c.put_bodies-end.result
 put c =
     let w = cleared c in
     let p = changed w in

@@ -18,7 +18,7 @@ use Rattle.queries.proofs.plain_run.Tie as tie
 abbrev lent : tie.Start → Tables
 lent s =
     let a = s.args in
-    tables a.held.now a.timestamps.now a.order.now a.status.now a.withdrawn.now a.lengths.now a.programs.now a.reads.now a.writes.now a.sources.now a.seen.now a.targets.now a.written.now a.view.now a.versions.now a.cutoff.now a.kept.now
+    tables a.held.now a.timestamps.now a.order.now a.status.now a.withdrawn.now a.lengths.now a.programs.now a.reads.now a.writes.now a.sources.now a.seen.now a.targets.now a.written.now a.view.now a.versions.now a.cutoff.now a.auto.now
 
 abbrev entered : tie.After-fault-refusal → tie.Start
 entered c = search
@@ -39,7 +39,7 @@ counted c = search
 run-held-requires : tie.Need-run_held-requires
 run-held-requires c κs =
     let f : tie.After-fill_from = search in
-    (held-programs (fits (search)) (counted f).held_count-count.ensures, omega (arith, f.fill_from.kept))
+    (held-programs (fits (search)) (counted f).held_count-count.ensures, omega (arith, f.fill_from.auto))
 
 returns-3 : tie.Need-returns
 returns-3 c =
@@ -62,10 +62,10 @@ plain_run_spec =
     returns-2
     (λ c κs. (facts (fits c)).sizes.held)
     (λ c. refl)
-    (λ c κs. ((facts (fits (search))).sizes.kept, refl))
-    (λ c. omega (arith, (the tie.After-fill_from (search)).fill_from.kept))
+    (λ c κs. ((facts (fits (search))).sizes.auto, refl))
+    (λ c. omega (arith, (the tie.After-fill_from (search)).fill_from.auto))
     run-held-requires
     (λ c. search rules)
     (λ c κs. search rules)
-    (λ c. let at-fill-from2 : tie.After-fill_from-2 = search in omega (arith, at-fill-from2.fill_from-2.kept))
+    (λ c. let at-fill-from2 : tie.After-fill_from-2 = search in omega (arith, at-fill-from2.fill_from-2.auto))
     returns-3)

@@ -24,10 +24,10 @@ told : (c : tie.After-position) {x : Option ℕ} → let a = (entry c).args in p
 told c e = let at-else2 : tie.Else-timestamp-cutoff = search in let t : tie.Else-not-is_timestamp = search in rw (← e, ← t.before.is_timestamp.ensures, t.if-not-is_timestamp.false, le-ltb _ _ at-else2.if-timestamp-cutoff.false)
 
 -- the position that was found, and the place there
-at : (c : tie.In-At-2) → let a = (entry (searched c)).args in position_of a.order.now a.timestamps.now a.timestamp a.count ≡ some c.k-1.given.0.0
-at c = found_at _ (searched c).position.ensures c.k-1.given.1
+at : (c : tie.In-At-2) → let a = (entry (searched c)).args in position_of a.order.now a.timestamps.now a.timestamp a.count ≡ some c.k.given.0.0
+at c = found_at _ (searched c).position.ensures c.k.given.1
 
-within : (c : tie.In-At-2) → let s = entry (searched c) in let k = c.k-1.given.0.0 in let place = get_or s.args.order.now k 0 in (k < length s.args.order.now) × (place < length s.args.status.now) × (place < length s.args.withdrawn.now)
+within : (c : tie.In-At-2) → let s = entry (searched c) in let k = c.k.given.0.0 in let place = get_or s.args.order.now k 0 in (k < length s.args.order.now) × (place < length s.args.status.now) × (place < length s.args.withdrawn.now)
 within c =
     let p = (entry (searched c)).requires in
     let k = position-below _ _ _ _ (at c) in
@@ -44,7 +44,7 @@ returns-3 : tie.Need-returns-in-At
 returns-3 c = let k : tie.In-At-2 = search in told (searched k) (at k)
 
 returns-4 : tie.Need-returns-in-Nothing
-returns-4 c = let p : tie.After-position = search in told p (found_nothing _ p.position.ensures c.enum_told-1.given.1)
+returns-4 c = let p : tie.After-position = search in told p (found_nothing _ p.position.ensures c.enum_told.given.1)
 
 pub standing_at_spec : {M : Type 1} → statement M
 standing_at_spec =

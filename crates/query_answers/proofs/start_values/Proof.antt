@@ -29,4 +29,4 @@ returns-2 : tie.Need-returns
 returns-2 c = start-wrong-length _ c.if-settings-eq1024.false
 
 pub start_values_spec : {M : Type 1} → statement M
-start_values_spec = tie.close (tie.spec (λ c κs. let at-then1 : tie.Then-settings-eq1024 = search in at-then1.if-settings-eq1024.true) (λ c. let at-fill-start : tie.After-fill_start = search in omega (arith, at-fill-start.fill_start.kept)) returns returns-2)
+start_values_spec = tie.close (tie.spec (λ c κs. let at-then1 : tie.Then-settings-eq1024 = search in at-then1.if-settings-eq1024.true) (λ c. let at-fill-start : tie.After-fill_start = search in omega (arith, at-fill-start.fill_start.auto)) returns returns-2)

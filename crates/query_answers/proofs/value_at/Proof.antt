@@ -36,7 +36,7 @@ returns-4 c =
     let at-else2 : tie.Else-timestamp-cutoff = search in
     let at-else1 : tie.Else-timestamp-eq0 = search in
     let r : tie.After-rank-k = search in
-    ap value.Is (to_z-of_z (sfits_of c.value_below.type-inv) ∙ c.value_below.ensures)
+    ap value.Is (to_z-of_z (sfits_of c.value_below.type_inv) ∙ c.value_below.ensures)
     ∙ rw (r.rank-k.ensures, ne_eqb _ 0 at-else1.if-timestamp-eq0.false, le-ltb _ _ at-else2.if-timestamp-cutoff.false, lt-leb setting_count _ at-else3.if-setting-ge1024.false)
 
 pub value_at_spec : {M : Type 1} → statement M

@@ -49,16 +49,16 @@ replace_spec =
     tie.close
     (tie.spec
     new-lists-requires
-    (λ c. let at-new-lists : tie.After-new_lists-run = search in sym at-new-lists.new_lists-run.ensures.0.sized.targets-1)
-    (λ c. let at-new-lists : tie.After-new_lists-run = search in sym at-new-lists.new_lists-run.ensures.0.sized.written-1)
+    (λ c. let at-new-lists : tie.After-new_lists-run = search in sym at-new-lists.new_lists-run.ensures.0.sized.targets)
+    (λ c. let at-new-lists : tie.After-new_lists-run = search in sym at-new-lists.new_lists-run.ensures.0.sized.written)
     propagate-requires
     (λ c. let p = (before-new-lists (before-propagate (search))).requires.1 in omega (arith, p.at.ordered, p.small))
     (λ c. (before-new-lists (before-propagate (search))).requires.1.at.ordered)
     (λ c. let a = (before-new-lists (before-propagate (search))).requires.1.at in omega (arith, a.place, a.small))
-    (λ c. sym (before-propagate (search)).new_lists-run.ensures.0.sized.sources-1)
-    (λ c. sym (before-propagate (search)).new_lists-run.ensures.0.sized.seen-1)
-    (λ c. sym (before-propagate (search)).new_lists-run.ensures.0.sized.targets-1)
-    (λ c. sym (before-propagate (search)).new_lists-run.ensures.0.sized.written-1)
+    (λ c. sym (before-propagate (search)).new_lists-run.ensures.0.sized.sources)
+    (λ c. sym (before-propagate (search)).new_lists-run.ensures.0.sized.seen)
+    (λ c. sym (before-propagate (search)).new_lists-run.ensures.0.sized.targets)
+    (λ c. sym (before-propagate (search)).new_lists-run.ensures.0.sized.written)
     put-lists-requires
     (λ c. omega (arith, (before-put-lists (search)).propagate.auto))
     (λ c. omega (arith, (called (search)).put_lists.auto))

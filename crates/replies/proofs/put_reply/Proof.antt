@@ -13,7 +13,7 @@ use Rattle.replies.proofs.put_reply.Tie as tie
 abbrev lent : tie.Start → Tables
 lent s =
     let a = s.args in
-    tables a.held.now a.timestamps.now a.order.now a.status-1.now a.withdrawn.now a.lengths.now a.programs.now a.reads-1.now a.writes-1.now a.sources-1.now a.seen-1.now a.targets-1.now a.written-1.now a.view-1.now a.versions.now a.cutoff.now a.kept.now
+    tables a.held.now a.timestamps.now a.order.now a.status.now a.withdrawn.now a.lengths.now a.programs.now a.reads.now a.writes.now a.sources.now a.seen.now a.targets.now a.written.now a.view.now a.versions.now a.cutoff.now a.auto.now
 
 -- ---- the places of the code, from each the one before
 
@@ -57,7 +57,7 @@ put-turns-requires c κs =
     let l : tie.After-put_entries-end = search in
     let f = l.put_entries-end in
     let e = passed l in
-    ((answered e).formed, omega (arith, f.ensures.upper_bound, f.kept, (entry e.before).requires.answers_len.1))
+    ((answered e).formed, omega (arith, f.ensures.upper_bound, f.auto, (entry e.before).requires.answers_len.1))
 
 put-settings-requires : tie.Need-put_settings-requires
 put-settings-requires c κs =
@@ -66,7 +66,7 @@ put-settings-requires c κs =
     let l = listed t in
     let f = l.put_entries-end in
     let e = passed l in
-    (omega (arith, g.kept, (facts (answered e).formed).sizes.view-1), omega (arith, f.ensures.upper_bound, f.kept, g.ensures.short, g.kept, (entry e.before).requires.answers_len.1))
+    (omega (arith, g.auto, (facts (answered e).formed).sizes.view), omega (arith, f.ensures.upper_bound, f.auto, g.ensures.short, g.auto, (entry e.before).requires.answers_len.1))
 
 returns-2 : tie.Need-returns
 returns-2 c =
@@ -87,7 +87,7 @@ put_reply_spec =
     (tie.spec
     (λ c κs. tt)
     put-refusal-requires
-    (λ c. omega (arith, (the tie.After-put_refusal (search)).put_refusal.kept))
+    (λ c. omega (arith, (the tie.After-put_refusal (search)).put_refusal.auto))
     returns
     put-entries-requires
     put-turns-requires
@@ -100,5 +100,5 @@ put_reply_spec =
     (λ c. omega (arith, (turned (search)).put_turns-end.auto))
     (λ c. omega (arith, (turned (search)).put_turns-end.auto))
     (λ c. omega (arith, (turned (search)).put_turns-end.auto))
-    (λ c. omega (arith, (the tie.After-put_settings (search)).put_settings.kept, (turned (search)).put_turns-end.auto, (listed (turned (search))).put_entries-end.auto))
+    (λ c. omega (arith, (the tie.After-put_settings (search)).put_settings.auto, (turned (search)).put_turns-end.auto, (listed (turned (search))).put_entries-end.auto))
     returns-2)

@@ -21,7 +21,7 @@ decreases-loop held timestamps order status₀ withdrawn lengths programs reads�
 abbrev lent : tie.Start invariant-loop decreases-loop → Tables
 lent s =
     let a = s.args in
-    tables a.held.now a.timestamps.now a.order.now a.status-1.now a.withdrawn.now a.lengths.now a.programs.now a.reads-1.now a.writes-1.now a.sources-1.now a.seen-1.now a.targets-1.now a.written-1.now a.view-1.now a.versions.now a.cutoff.now a.kept.now
+    tables a.held.now a.timestamps.now a.order.now a.status.now a.withdrawn.now a.lengths.now a.programs.now a.reads.now a.writes.now a.sources.now a.seen.now a.targets.now a.written.now a.view.now a.versions.now a.cutoff.now a.auto.now
 
 -- the entry, from the loop
 abbrev entry : tie.At-loop-idle invariant-loop decreases-loop → tie.Start invariant-loop decreases-loop
@@ -55,14 +55,14 @@ loop-less c =
     let p = lined c in
     let t = turned p in
     let l = (tested t).before in
-    (turning-goes-on l.loop-idle.invariant (omega (arith, (entry l).requires.at_in_bounds)) p.put_turn-end.ensures.upper_bound (omega (arith, p.put_turn-end.kept)) (not-true _ (tested t).loop-idle-test.true) t.turn-answer.ensures p.put_turn-end.ensures.put c.is_idle-idle.ensures).1
+    (turning-goes-on l.loop-idle.invariant (omega (arith, (entry l).requires.at_in_bounds)) p.put_turn-end.ensures.upper_bound (omega (arith, p.put_turn-end.auto)) (not-true _ (tested t).loop-idle-test.true) t.turn-answer.ensures p.put_turn-end.ensures.put c.is_idle-idle.ensures).1
 
 loop-again : tie.Need-loop-idle-preserved invariant-loop decreases-loop
 loop-again c =
     let p = lined c in
     let t = turned p in
     let l = (tested t).before in
-    (turning-goes-on l.loop-idle.invariant (omega (arith, (entry l).requires.at_in_bounds)) p.put_turn-end.ensures.upper_bound (omega (arith, p.put_turn-end.kept)) (not-true _ (tested t).loop-idle-test.true) t.turn-answer.ensures p.put_turn-end.ensures.put c.is_idle-idle.ensures).0
+    (turning-goes-on l.loop-idle.invariant (omega (arith, (entry l).requires.at_in_bounds)) p.put_turn-end.ensures.upper_bound (omega (arith, p.put_turn-end.auto)) (not-true _ (tested t).loop-idle-test.true) t.turn-answer.ensures p.put_turn-end.ensures.put c.is_idle-idle.ensures).0
 
 -- the lengths at the start
 at-start : (c : tie.After-loop-idle invariant-loop decreases-loop) → Lengths capacity (lent (entry c.before))
@@ -83,13 +83,13 @@ put_turns_spec =
     (λ c κs. tt)
     loop-less
     loop-again
-    (λ c. (turning-lengths c.before.loop-idle.invariant).status-1 ∙ sym (at-start c).status-1)
-    (λ c. (turning-lengths c.before.loop-idle.invariant).reads-1 ∙ sym (at-start c).reads-1)
-    (λ c. (turning-lengths c.before.loop-idle.invariant).writes-1 ∙ sym (at-start c).writes-1)
-    (λ c. (turning-lengths c.before.loop-idle.invariant).sources-1 ∙ sym (at-start c).sources-1)
-    (λ c. (turning-lengths c.before.loop-idle.invariant).seen-1 ∙ sym (at-start c).seen-1)
-    (λ c. (turning-lengths c.before.loop-idle.invariant).targets-1 ∙ sym (at-start c).targets-1)
-    (λ c. (turning-lengths c.before.loop-idle.invariant).written-1 ∙ sym (at-start c).written-1)
-    (λ c. (turning-lengths c.before.loop-idle.invariant).view-1 ∙ sym (at-start c).view-1)
+    (λ c. (turning-lengths c.before.loop-idle.invariant).status ∙ sym (at-start c).status)
+    (λ c. (turning-lengths c.before.loop-idle.invariant).reads ∙ sym (at-start c).reads)
+    (λ c. (turning-lengths c.before.loop-idle.invariant).writes ∙ sym (at-start c).writes)
+    (λ c. (turning-lengths c.before.loop-idle.invariant).sources ∙ sym (at-start c).sources)
+    (λ c. (turning-lengths c.before.loop-idle.invariant).seen ∙ sym (at-start c).seen)
+    (λ c. (turning-lengths c.before.loop-idle.invariant).targets ∙ sym (at-start c).targets)
+    (λ c. (turning-lengths c.before.loop-idle.invariant).written ∙ sym (at-start c).written)
+    (λ c. (turning-lengths c.before.loop-idle.invariant).view ∙ sym (at-start c).view)
     (λ c. c.before.loop-idle.invariant.same)
     returns)

@@ -76,7 +76,7 @@ loop-again c =
     let k : tie.After-kind_at invariant-loop decreases-loop = search in
     let p = q.put_entry-end in
     let e = ap (λ (k : ℕ). entry_line m.before.loop-j.j k (get_or s.args.answers.now m.before.loop-j.j 0)) k.kind_at.ensures in
-    below_next m.before.loop-j.invariant m.loop-j-test.true (omega arith) (put_as p.ensures.put e) p.ensures.upper_bound (omega (arith, p.kept))
+    below_next m.before.loop-j.invariant m.loop-j-test.true (omega arith) (put_as p.ensures.put e) p.ensures.upper_bound (omega (arith, p.auto))
 
 same_length : tie.Need-shape_of-text invariant-loop decreases-loop
 same_length c = c.before.loop-j.invariant.same

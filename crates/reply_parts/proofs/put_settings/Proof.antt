@@ -61,7 +61,7 @@ loop-again c =
     let p = q.put_setting-end in
     let v = f.start_value in
     let e = setting-read m.before.loop-s.s s.args.view.now (sfits_of v.ok) v.ensures (sfits_of a.put_setting-arg-1.given) in
-    below_next m.before.loop-s.invariant m.loop-s-test.true (omega (arith, s.requires.1)) (put_as p.ensures.put e) p.ensures.upper_bound (omega (arith, p.kept))
+    below_next m.before.loop-s.invariant m.loop-s-test.true (omega (arith, s.requires.1)) (put_as p.ensures.put e) p.ensures.upper_bound (omega (arith, p.auto))
 
 same_length : tie.Need-shape_of-text invariant-loop decreases-loop
 same_length c = c.before.loop-s.invariant.same

@@ -16,7 +16,7 @@ use Rattle.run_steps.proofs.perform.Statement.{statement}
 use Rattle.run_steps.proofs.perform.Tie as tie
 
 assign-requires : tie.Need-assign-requires
-assign-requires c κs = let at-e : tie.In-Assign-2 = search in let start : tie.Start = search in rw at-e.e-1.given.1 at start.requires.1
+assign-requires c κs = let at-e : tie.In-Assign-2 = search in let start : tie.Start = search in rw at-e.e.given.1 at start.requires.1
 
 advance-requires : tie.Need-advance-requires
 advance-requires c κs = rw c.assign.ensures (omega arith)
@@ -36,7 +36,7 @@ abbrev distance : tie.In-Skip → ℤ
 distance c = let at-e4 : tie.In-Skip-2 = search in at-e4.e-in-Skip-1.given.0.0
 
 distance-fits : (c : tie.In-Skip) → SFits w32 (distance c)
-distance-fits c = sfits_of c.known_told-in-Skip-1.given.0.1
+distance-fits c = sfits_of c.known-told4.given.0.1
 
 within : (c : tie.In-Skip) → is_below (distance c) (32 - (start c).args.run.place) ≡ true
 within c =
@@ -57,7 +57,7 @@ returns : tie.Need-returns-in-Halt
 returns c =
     let at-enum-told : tie.In-Halt = search in
     let s : tie.Start = search in
-    rw (at-enum-told.enum_told-1.given.1, c.stop.ensures) (halts _ _ _ s.requires.0 s.requires.2)
+    rw (at-enum-told.enum_told.given.1, c.stop.ensures) (halts _ _ _ s.requires.0 s.requires.2)
 
 returns-2 : tie.Need-returns-in-Assign
 returns-2 c =
@@ -65,7 +65,7 @@ returns-2 c =
     let at-e : tie.In-Assign-2 = search in
     let k : tie.In-Assign = search in
     let s : tie.Start = search in
-    rw (at-e.e-1.given.1, ← to_z-of_z w32 at-e.e-1.given.0.1.0 (sfits_of k.known_told-1.given.1.0.1), c.advance.ensures, at-assign.assign.ensures)
+    rw (at-e.e.given.1, ← to_z-of_z w32 at-e.e.given.0.1.0 (sfits_of k.known-told.given.1.0.1), c.advance.ensures, at-assign.assign.ensures)
     (assigns _ _ _ s.requires.0 s.requires.2 _ _)
 
 returns-3 : tie.Need-returns-in-Load
@@ -73,7 +73,7 @@ returns-3 c =
     let at-e2 : tie.In-Load-2 = search in
     let k : tie.In-Load = search in
     let s : tie.Start = search in
-    rw (at-e2.e-in-Load-1.given.1, ← to_z-of_z w32 at-e2.e-in-Load-1.given.0.1.0 (sfits_of k.known_told-in-Load-1.given.1.0.1), ← to_z-of_z w32 _ s.fits.v)
+    rw (at-e2.e-in-Load-1.given.1, ← to_z-of_z w32 at-e2.e-in-Load-1.given.0.1.0 (sfits_of k.known-told2.given.1.0.1), ← to_z-of_z w32 _ s.fits.v)
     c.load.ensures
 
 returns-4 : tie.Need-returns-in-Store
@@ -81,7 +81,7 @@ returns-4 c =
     let at-e3 : tie.In-Store-2 = search in
     let k : tie.In-Store = search in
     let s : tie.Start = search in
-    rw (at-e3.e-in-Store-1.given.1, ← to_z-of_z w32 at-e3.e-in-Store-1.given.0.0 (sfits_of k.known_told-in-Store-1.given.0.1), ← to_z-of_z w32 at-e3.e-in-Store-1.given.0.1.0 (sfits_of k.known_told-in-Store-1.given.1.0.1))
+    rw (at-e3.e-in-Store-1.given.1, ← to_z-of_z w32 at-e3.e-in-Store-1.given.0.0 (sfits_of k.known-told3.given.0.1), ← to_z-of_z w32 at-e3.e-in-Store-1.given.0.1.0 (sfits_of k.known-told3.given.1.0.1))
     (c.store.ensures _ _ _ s.requires.2)
 
 returns-5 : tie.Need-returns-in-Skip

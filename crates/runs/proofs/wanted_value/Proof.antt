@@ -11,7 +11,7 @@ returns : tie.Need-returns-then-s-lt1024
 returns c =
     let taken : tie.Then-s-lt1024 = search in
     let v = c.value_of_lem in
-    (to_z-of_z (sfits_of v.type-inv) ∙ v.ensures.0 ∙ rw (lt-ltb _ 1024 taken.if-s-lt1024.true), v.ensures.2)
+    (to_z-of_z (sfits_of v.type_inv) ∙ v.ensures.0 ∙ rw (lt-ltb _ 1024 taken.if-s-lt1024.true), v.ensures.2)
 
 returns-2 : tie.Need-returns
 returns-2 c = let start : tie.Start = search in (rw (le-ltb _ 1024 c.if-s-lt1024.false), looked-none start.requires.right)

@@ -36,7 +36,7 @@ loop-again c =
     let at-else1 : tie.Else-settings-answers invariant-loop decreases-loop = search in
     let l = at-loop.loop-i in
     let one_each = at-else1.if-settings-answers.false in
-    rw (to_z-of_z (sfits_of c.number_of_lem.type-inv), c.number_of_lem.ensures, at-previous-write.previous_write-found.ensures) (fill-next (omega (arith, l.invariant.same, one_each)) l.invariant)
+    rw (to_z-of_z (sfits_of c.number_of_lem.type_inv), c.number_of_lem.ensures, at-previous-write.previous_write-found.ensures) (fill-next (omega (arith, l.invariant.same, one_each)) l.invariant)
 
 returns-3 : tie.Need-returns invariant-loop decreases-loop
 returns-3 c =

@@ -14,7 +14,7 @@ use Rattle.setup.proofs.set_up.Tie as tie
 abbrev lent : tie.Start → Tables
 lent s =
     let a = s.args in
-    tables a.held-1.now a.timestamps-1.now a.order-1.now a.status-1.now a.withdrawn-1.now a.lengths-1.now a.programs-1.now a.reads-1.now a.writes-1.now a.sources-1.now a.seen-1.now a.targets-1.now a.written-1.now a.view-1.now a.versions-1.now a.cutoff-1.now a.kept-1.now
+    tables a.held.now a.timestamps.now a.order.now a.status.now a.withdrawn.now a.lengths.now a.programs.now a.reads.now a.writes.now a.sources.now a.seen.now a.targets.now a.written.now a.view.now a.versions.now a.cutoff.now a.auto.now
 
 abbrev entry : tie.After-lengths_fit → tie.Start
 entry c = search
@@ -44,12 +44,12 @@ view c = search
 fill-start-requires : tie.Need-fill_start-requires
 fill-start-requires c κs =
     let l : tie.After-clear_lists = search in
-    (lengths-of _ _ (right (tested (changes l)))).view-1
+    (lengths-of _ _ (right (tested (changes l)))).view
 
 fill-start-requires-2 : tie.Need-fill_start-requires-2
 fill-start-requires-2 c κs =
     let v : tie.After-fill_start = search in
-    (lengths-of _ _ (right (tested (changes (lists v))))).kept-1
+    (lengths-of _ _ (right (tested (changes (lists v))))).auto
 
 returns-2 : tie.Need-returns
 returns-2 c =
@@ -61,22 +61,22 @@ returns-2 c =
     let b = l.clear_lists.ensures in
     all-cleared _ _ (right (tested s))
     (record {
-      held = a.held-1;
-      timestamps = a.timestamps-1;
-      order = a.order-1;
-      status = a.status-1;
-      withdrawn = a.withdrawn-1;
-      lengths = a.lengths-1;
-      programs = a.programs-1;
-      reads = b.reads-1;
-      writes = b.writes-1;
-      sources = b.sources-1;
-      seen = b.seen-1;
-      targets = b.targets-1;
-      written = b.written-1;
+      held = a.held;
+      timestamps = a.timestamps;
+      order = a.order;
+      status = a.status;
+      withdrawn = a.withdrawn;
+      lengths = a.lengths;
+      programs = a.programs;
+      reads = b.reads;
+      writes = b.writes;
+      sources = b.sources;
+      seen = b.seen;
+      targets = b.targets;
+      written = b.written;
       view = v.fill_start.ensures;
-      versions = a.versions-1;
-      cutoff = a.cutoff-1;
+      versions = a.versions;
+      cutoff = a.cutoff;
       kept = k.fill_start-2.ensures;
     })
 
@@ -123,5 +123,5 @@ set_up_spec =
     (λ c. omega (arith, (view (search)).fill_start.auto))
     (λ c. omega (arith, (changes (lists (view (search)))).clear_changes.auto))
     (λ c. omega (arith, (changes (lists (view (search)))).clear_changes.auto))
-    (λ c. omega (arith, (the tie.After-fill_start-2 (search)).fill_start-2.kept-1))
+    (λ c. omega (arith, (the tie.After-fill_start-2 (search)).fill_start-2.auto))
     returns-2)

@@ -35,7 +35,7 @@ returns c T g =
 returns-2 : tie.Need-returns-in-Nothing
 returns-2 c T g =
     let at-waiting : tie.After-waiting = search in
-    turn-idle g (found_nothing _ at-waiting.waiting.ensures c.enum_told-1.given.1)
+    turn-idle g (found_nothing _ at-waiting.waiting.ensures c.enum_told.given.1)
 
 pub turn_once_spec : {M : Type 1} → statement M
 turn_once_spec =
@@ -45,14 +45,14 @@ turn_once_spec =
     (λ c. search rules)
     turn-at-requires
     (λ c. search rules)
-    (λ c. omega (arith, (the tie.After-turn_at (search)).turn_at.kept))
-    (λ c. omega (arith, (the tie.After-turn_at (search)).turn_at.kept))
-    (λ c. omega (arith, (the tie.After-turn_at (search)).turn_at.kept))
-    (λ c. omega (arith, (the tie.After-turn_at (search)).turn_at.kept))
-    (λ c. omega (arith, (the tie.After-turn_at (search)).turn_at.kept))
-    (λ c. omega (arith, (the tie.After-turn_at (search)).turn_at.kept))
-    (λ c. omega (arith, (the tie.After-turn_at (search)).turn_at.kept))
-    (λ c. omega (arith, (the tie.After-turn_at (search)).turn_at.kept))
+    (λ c. omega (arith, (the tie.After-turn_at (search)).turn_at.auto))
+    (λ c. omega (arith, (the tie.After-turn_at (search)).turn_at.auto))
+    (λ c. omega (arith, (the tie.After-turn_at (search)).turn_at.auto))
+    (λ c. omega (arith, (the tie.After-turn_at (search)).turn_at.auto))
+    (λ c. omega (arith, (the tie.After-turn_at (search)).turn_at.auto))
+    (λ c. omega (arith, (the tie.After-turn_at (search)).turn_at.auto))
+    (λ c. omega (arith, (the tie.After-turn_at (search)).turn_at.auto))
+    (λ c. omega (arith, (the tie.After-turn_at (search)).turn_at.auto))
     returns
     (λ c. refl)
     returns-2)

@@ -17,7 +17,7 @@ use Rattle.taking.proofs.take_item.Tie as tie
 abbrev lent : tie.Start → Tables → Tables
 lent s T =
     let a = s.args in
-    with_lent T a.held.now a.timestamps.now a.order-1.now a.lengths.now a.programs-1.now a.versions.now a.cutoff.now
+    with_lent T a.held.now a.timestamps.now a.order.now a.lengths.now a.programs.now a.versions.now a.cutoff.now
 
 abbrev whole : tie.Start → Tables
 whole s = lent s s.requires.others
@@ -155,6 +155,6 @@ take_item_spec =
     (λ c. simp length-set)
     (λ c. omega (arith, (stored (search)).enter_next.auto))
     (λ c. simp length-set)
-    (λ c. let at-copy-in : tie.After-copy_in = search in omega (arith, at-copy-in.copy_in.kept))
+    (λ c. let at-copy-in : tie.After-copy_in = search in omega (arith, at-copy-in.copy_in.auto))
     (λ c. simp length-set)
     returns-4)

@@ -11,28 +11,28 @@ returns-2 c =
     let start : tie.Start = search in
     let told : tie.In-Ran-2 = search in
     let counted : tie.After-count = search in
-    counted.count.ensures ∙ ap (λ (a : Turned). counted_in a start.args.totals-1.now) (sym told.answer-1.given.1)
+    counted.count.ensures ∙ ap (λ (a : Turned). counted_in a start.args.totals.now) (sym told.answer.given.1)
 
 returns-3 : tie.Need-returns-in-Stood
 returns-3 c =
     let start : tie.Start = search in
     let told : tie.In-Stood-2 = search in
     let counted : tie.After-count-in-Stood = search in
-    counted.count-in-Stood.ensures ∙ ap (λ (a : Turned). counted_in a start.args.totals-1.now) (sym told.answer-in-Stood-1.given.1)
+    counted.count-in-Stood.ensures ∙ ap (λ (a : Turned). counted_in a start.args.totals.now) (sym told.answer-in-Stood-1.given.1)
 
 returns-4 : tie.Need-returns-in-Cleared
 returns-4 c =
     let start : tie.Start = search in
     let told : tie.In-Cleared-2 = search in
     let counted : tie.After-count-in-Cleared = search in
-    counted.count-in-Cleared.ensures ∙ ap (λ (a : Turned). counted_in a start.args.totals-1.now) (sym told.answer-in-Cleared-1.given.1)
+    counted.count-in-Cleared.ensures ∙ ap (λ (a : Turned). counted_in a start.args.totals.now) (sym told.answer-in-Cleared-1.given.1)
 
 returns-5 : tie.Need-returns-in-Faulted
 returns-5 c =
     let start : tie.Start = search in
     let told : tie.In-Faulted-2 = search in
     let counted : tie.After-count-in-Faulted = search in
-    counted.count-in-Faulted.ensures ∙ ap (λ (a : Turned). counted_in a start.args.totals-1.now) (sym told.answer-in-Faulted-1.given.1)
+    counted.count-in-Faulted.ensures ∙ ap (λ (a : Turned). counted_in a start.args.totals.now) (sym told.answer-in-Faulted-1.given.1)
 
 pub count_turn_spec : {M : Type 1} → statement M
 count_turn_spec =

@@ -90,7 +90,7 @@ turn_at_spec =
     (λ c κs. search rules)
     carry-place-requires
     (λ c. omega (arith, (turn-slots (before-decide (search)).requires.so).place))
-    (λ c. (turn-slots (before-decide (search)).requires.so).status-1)
+    (λ c. (turn-slots (before-decide (search)).requires.so).status)
     (λ c. simp length-set)
     (λ c. refl)
     (λ c. refl)
@@ -103,7 +103,7 @@ turn_at_spec =
     note-uses-requires
     replace-requires
     (λ c. omega (arith, (turn-slots (started (search)).requires.so).place))
-    (λ c. omega (arith, (turn-slots (started (search)).requires.so).status-1, (the tie.After-replace-run (search)).replace-run.kept))
+    (λ c. omega (arith, (turn-slots (started (search)).requires.so).status, (the tie.After-replace-run (search)).replace-run.auto))
     (λ c κs. search rules)
     (λ c. simp length-set (omega (arith, (called c).replace-run.auto)))
     (λ c. omega (arith, (called c).replace-run.auto))

@@ -25,7 +25,7 @@ entry c = search
 
 -- the values as of the position
 abbrev upto : tie.Start invariant-loop decreases-loop → Environment
-upto c = let a = c.args in values_below a.order.now a.writes.now a.targets.now a.written.now a.kept.now a.k
+upto c = let a = c.args in values_below a.order.now a.writes.now a.targets.now a.written.now a.auto.now a.k
 
 loop-holds : tie.Need-loop-i-init invariant-loop decreases-loop
 loop-holds c =

@@ -17,13 +17,13 @@ returns : tie.Need-returns-in-Value
 returns c =
     let found : tie.In-Value-2 = search in
     let r : tie.After-previous_write = search in
-    to_z-of_z (sfits_of c.known_told-1.given.0.1) ∙ found-value (sought (search)) r.previous_write.ensures found.v-1.given.1 _
+    to_z-of_z (sfits_of c.known-told.given.0.1) ∙ found-value (sought (search)) r.previous_write.ensures found.v.given.1 _
 
 returns-2 : tie.Need-returns-in-Nothing
 returns-2 c =
     let none : tie.In-Nothing = search in
     let r : tie.After-previous_write = search in
-    to_z-of_z (sfits_of c.result-1.given) ∙ found_none (sought (search)) r.previous_write.ensures none.enum_told-1.given.1 _
+    to_z-of_z (sfits_of c.result-1.given) ∙ found_none (sought (search)) r.previous_write.ensures none.enum_told.given.1 _
 
 pub value_below_spec : {M : Type 1} → statement M
 value_below_spec =

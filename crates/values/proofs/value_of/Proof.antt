@@ -18,7 +18,7 @@ returns-2 : tie.Need-returns
 returns-2 c =
     let s : tie.Start = search in
     let h = s.requires.1.right in
-    let e = to_z-of_z (sfits_of c.value_below-v.type-inv) ∙ c.value_below-v.ensures in
+    let e = to_z-of_z (sfits_of c.value_below-v.type_inv) ∙ c.value_below-v.ensures in
     (e, noted h s.args.s s.requires.0, looked-one h s.args.s s.requires.0 e)
 
 value-below-requires : tie.Need-value_below-v-requires

@@ -33,8 +33,8 @@ loop-again c =
     let r = c.before.wide.ensures.0 in (
       omega arith,
       ⊎_elim (λ w. ap length w.2 ∙ simp length-set l.invariant.1) (λ w. ap length w.1 ∙ l.invariant.1) c.if-wide-from.branch,
-      ⊎_elim (λ w. follow-next _ _ _ _ l.i l.view-1 t.loop-i-test.true (omega (arith, w.0.true, r)) w.2 (search rules) ∙ l.invariant.2)
-          (λ w. follow-kept _ _ _ _ l.i l.view-1 t.loop-i-test.true (omega (arith, w.0.false, r)) w.1 ∙ l.invariant.2)
+      ⊎_elim (λ w. follow-next _ _ _ _ l.i l.view t.loop-i-test.true (omega (arith, w.0.true, r)) w.2 (search rules) ∙ l.invariant.2)
+          (λ w. follow-kept _ _ _ _ l.i l.view t.loop-i-test.true (omega (arith, w.0.false, r)) w.1 ∙ l.invariant.2)
           c.if-wide-from.branch,
     )
 
@@ -42,7 +42,7 @@ returns : tie.Need-returns invariant-loop decreases-loop
 returns c =
     let at-loop : tie.At-loop-i invariant-loop decreases-loop = search in
     let l = at-loop.loop-i in
-    follow-end _ _ _ _ l.i l.view-1 c.loop-i-test.false ∙ l.invariant.2
+    follow-end _ _ _ _ l.i l.view c.loop-i-test.false ∙ l.invariant.2
 
 pub follow_view_spec : {M : Type 1} → statement M
 follow_view_spec =

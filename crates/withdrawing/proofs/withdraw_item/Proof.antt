@@ -65,11 +65,11 @@ told c T e =
     let a = (start c).args in
     ap (position_of a.order.now a.timestamps.now a.timestamp) (sym (counted c).held_count-count.ensures) ∙ e
 
-at : (c : tie.In-At-2) (T : Tables) → let s = start (searched c) in position_in (lent s T) s.args.timestamp ≡ some c.found-1.given.0.0
-at c T = told (searched c) T (found_at _ (searched c).position-found.ensures c.found-1.given.1)
+at : (c : tie.In-At-2) (T : Tables) → let s = start (searched c) in position_in (lent s T) s.args.timestamp ≡ some c.found.given.0.0
+at c T = told (searched c) T (found_at _ (searched c).position-found.ensures c.found.given.1)
 
 -- the slots that the code reads and writes are there
-within : (c : tie.In-At-2) → let a = (start (searched c)).args in let k = c.found-1.given.0.0 in (k < length a.order.now) × (get_or a.order.now k 0 < length a.status.now) × (get_or a.order.now k 0 < length a.withdrawn.now) × (get_or a.order.now k 0 < 4096)
+within : (c : tie.In-At-2) → let a = (start (searched c)).args in let k = c.found.given.0.0 in (k < length a.order.now) × (get_or a.order.now k 0 < length a.status.now) × (get_or a.order.now k 0 < length a.withdrawn.now) × (get_or a.order.now k 0 < 4096)
 within c =
     let s = start (searched c) in
     let g = s.requires.formed in
@@ -100,7 +100,7 @@ returns-2 c =
 returns-3 : tie.Need-returns-in_default
 returns-3 c =
     let p : tie.After-position-found = search in
-    record { answered = λ T g. not-held-replied g _ (stamped p) (from p) (told p T (found_nothing _ p.position-found.ensures c.enum_told-1.given.1)) }
+    record { answered = λ T g. not-held-replied g _ (stamped p) (from p) (told p T (found_nothing _ p.position-found.ensures c.enum_told.given.1)) }
 
 returns-4 : tie.Need-returns-then-withdrawn-place-ne0
 returns-4 c =
@@ -112,7 +112,7 @@ returns-5 c =
     let e : tie.Else-withdrawn-place-ne0 = search in
     let f = flagged e in
     let a = (start (searched f)).args in
-    let i = get_or a.order.now f.found-1.given.0.0 0 in
+    let i = get_or a.order.now f.found.given.0.0 0 in
     record {
       answered = λ T g.
           ap (λ (s : ℕ). reply answer.Done (with_lent T a.held.now a.timestamps.now a.order.now (set a.status.now i s) (set a.withdrawn.now i 1) a.cutoff.now)) c.unsettled.ensures

@@ -43,15 +43,15 @@ returns c =
     let at-written-at : tie.After-written_at-found invariant-loop decreases-loop = search in
     let at-loop : tie.At-loop-below invariant-loop decreases-loop = search in
     let l = at-loop.loop-below in
-    let here = previous-here _ _ _ _ _ l.below (omega arith) at-written-at.written_at-found.ensures at-found.found-1.given.1 in
-    rw (to_z-of_z (sfits_of c.known_told-1.given.0.1)) (ap written_of (here ∙ l.invariant.1))
+    let here = previous-here _ _ _ _ _ l.below (omega arith) at-written-at.written_at-found.ensures at-found.found.given.1 in
+    rw (to_z-of_z (sfits_of c.known-told.given.0.1)) (ap written_of (here ∙ l.invariant.1))
 
 loop-again : tie.Need-loop-below-preserved invariant-loop decreases-loop
 loop-again c =
     let at-loop : tie.At-loop-below invariant-loop decreases-loop = search in
     let at-written-at : tie.After-written_at-found invariant-loop decreases-loop = search in
     let l = at-loop.loop-below in
-    (omega arith, previous-lower _ _ _ _ _ l.below (omega arith) at-written-at.written_at-found.ensures c.enum_told-1.given.1 ∙ l.invariant.1)
+    (omega arith, previous-lower _ _ _ _ _ l.below (omega arith) at-written-at.written_at-found.ensures c.enum_told.given.1 ∙ l.invariant.1)
 
 returns-2 : tie.Need-returns invariant-loop decreases-loop
 unfolding previous_write

@@ -22,11 +22,11 @@ loop-holds : tie.Need-loop-i-init invariant-loop decreases-loop
 unfolding entries carry
 loop-holds c = (omega arith, refl)
 
-same_length : (c : tie.At-loop-i invariant-loop decreases-loop) → length c.loop-i.values-1 ≡ length c.before.args.values-1.now
+same_length : (c : tie.At-loop-i invariant-loop decreases-loop) → length c.loop-i.values ≡ length c.before.args.values.now
 same_length c = ap length c.loop-i.invariant.1 ∙ length-carry _ _
 
 -- the target of a turn is within the values
-within : (c : tie.In-loop-i invariant-loop decreases-loop) → get_or c.before.before.args.targets.now c.before.loop-i.i 0 < length c.before.loop-i.values-1
+within : (c : tie.In-loop-i invariant-loop decreases-loop) → get_or c.before.before.args.targets.now c.before.loop-i.i 0 < length c.before.loop-i.values
 within c = omega (arith, (the (tie.Start invariant-loop decreases-loop) (search)).requires.3 c.before.loop-i.i (omega arith), same_length c.before)
 
 cast-s : tie.Need-overflow_cast-s invariant-loop decreases-loop
@@ -39,7 +39,7 @@ loop-again : tie.Need-loop-i-preserved invariant-loop decreases-loop
 loop-again c =
     let at-loop : tie.At-loop-i invariant-loop decreases-loop = search in
     let l = at-loop.loop-i in
-    (omega arith, rw (to_z-of_z (sfits_of c.values-1.given), l.invariant.1) (carry-stored l.i _ _ _ (omega arith) (omega arith)))
+    (omega arith, rw (to_z-of_z (sfits_of c.values.given), l.invariant.1) (carry-stored l.i _ _ _ (omega arith) (omega arith)))
 
 returns : tie.Need-returns invariant-loop decreases-loop
 returns c =
