@@ -1,5 +1,5 @@
 -- Laws of places and of the order list.
-use mathlib.Core.Path.{◌≡◌, refl, sym, ap, ◌∙◌}
+use mathlib.Core.Path.{◌≡◌, refl, sym, ap, subst, ◌∙◌}
 use mathlib.Core.Bool.{cond}
 use mathlib.Core.List.{List, [], ◌∷◌}
 use mathlib.Core.Logic.{◌⊎◌, inl, inr}
@@ -143,7 +143,7 @@ module _ (weight : ℕ → ℕ) where
   sum-without : (m : ℕ) (places : List ℕ) → In m places → AllDistinct places → sum_over places ≡ weight m + sum_over (without m places)
   sum-without m [] x d = elim x [ ]
   sum-without m (i ∷ places) (inl e) d =
-      rw (e, eq-eqb i i refl, without-none i places d.0)
+      subst (λ (k : ℕ). sum_over (i ∷ places) ≡ weight k + sum_over (without k (i ∷ places))) (sym e) (rw (eq-eqb i i refl, without-none i places d.0))
   sum-without m (i ∷ places) (inr h) d =
       let rest = sum-without m places h d.1 in
       rw (ne_eqb i m (not_there i m places d.0 h)) (omega (arith, rest))

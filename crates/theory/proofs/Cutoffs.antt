@@ -15,8 +15,8 @@ use Rattle.model.specs.Form.{lengths_fit, Formed}
 use Rattle.model.specs.Refusals.{waits_below}
 use Rattle.model.specs.Package.{Item, taking, withdrawing}
 use Rattle.model.specs.Book.{Book, booked, book_of, booked_items, fresh_after, fresh_run, fresh_end}
-use Rattle.model.specs.Calls.{reply, item_steps, drain}
-use Rattle.model.specs.Log.{Call, take_in_call, withdraw_call, book_items, Ledger, after_calls}
+use Rattle.model.specs.Calls.{item_step, reply, item_steps, drain}
+use Rattle.model.specs.Log.{after_call, Call, take_in_call, withdraw_call, book_items, Ledger, after_calls}
 use Rattle.model.specs.Sound.{Below, Sound}
 use Rattle.model.proofs.Values.{all-value}
 use Rattle.model.proofs.Sound.{under_at}
@@ -111,8 +111,10 @@ none-cutoff (withdrawing t ∷ items) = none-cutoff items
 
 items-hold : {n : ℕ} {c : Cabinet} {k : Ledger} (items : List Item) → Holding n c k → Holding n (item_steps n c items) (after_calls n (map call_of items) k)
 items-hold [] h = h
-items-hold (taking t p ∷ items) h = items-hold items (call-holds h (take_in_call t p))
-items-hold (withdrawing t ∷ items) h = items-hold items (call-holds h (withdraw_call t))
+items-hold {n = n} {c = c} {k = k} (taking t p ∷ items) h =
+    items-hold {n = n} {c = item_step n c (taking t p)} {k = after_call n (take_in_call t p) k} items (call-holds h (take_in_call t p))
+items-hold {n = n} {c = c} {k = k} (withdrawing t ∷ items) h =
+    items-hold {n = n} {c = item_step n c (withdrawing t)} {k = after_call n (withdraw_call t) k} items (call-holds h (withdraw_call t))
 
 pub never-dropping : (n : ℕ) (T : Tables) → lengths_fit n T ≡ true → (calls : List Call) → (n' : ℕ) (U : Tables) → lengths_fit n' U ≡ true → length ((cabinet_of n T calls).dropped ++ (cabinet_of n T calls).book) ≤ n' → NeverDropping (cabinet_of n T calls) n' U
 never-dropping n T fits calls n' U fits' room =

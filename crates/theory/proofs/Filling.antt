@@ -175,7 +175,7 @@ all_done [] last s uncut f = refl
 all_done {n} {c} (i ∷ items) last s uncut f =
     let done = accepted s i uncut f.0 in
     let next : book_of (history_of (item_step n c i)) ≡ book_done i (book_of (history_of c)) = item-book i s ∙ ap (λ (a : Answer). book_item i (answer_number a) (book_of (history_of c))) done in
-    ap₂ ◌∷◌ (ap answer_number done) (all_done items last (item-sound i s) ((item-cutoff n c i).0 ∙ uncut) (subst (λ (b : Book). Fills n b items last) (sym next) f.1))
+    ap₂ ◌∷◌ (ap answer_number done) (all_done {n = n} {c = item_step n c i} items last (item-sound i s) ((item-cutoff n c i).0 ∙ uncut) (subst (λ (b : Book). Fills n b items last) (sym next) f.1))
 
 -- the book by these answers
 pub all-booked : (n : ℕ) (book : Book) (items : List Item) (last : Book) (rest : List ℕ) → Fills n book items last → book_items items (replicate (length items) 0 ++ rest) book ≡ last
