@@ -1,4 +1,6 @@
 // What a turn does with its change: cleared, stood or run.
+#![tactic(auto)]
+
 ghost use Rattle.std.specs.Prelude.{◌≡◌, length, get_or};
 ghost use Rattle.model.specs.History.{all_hold};
 ghost use Rattle.model.specs.Tables.{list_in};

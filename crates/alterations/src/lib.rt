@@ -1,4 +1,6 @@
 // The settings that change where a change's writes are replaced by new ones, and the values before and after it.
+#![tactic(auto)]
+
 ghost use Rattle.std.specs.Prelude.{◌≡◌, length, get_or};
 ghost use Rattle.machine.specs.Settings.{entries};
 ghost use Rattle.model.specs.Tables.{list_in};

@@ -1,4 +1,6 @@
 // Answers as numbers: the answer bytes of a package, and what programs in other languages get.
+#![tactic(auto)]
+
 ghost use Rattle.std.specs.Prelude.{◌≡◌, ◌<◌, length};
 ghost use Rattle.model.specs.Calls.{turned_given, value_given, standing_given, packed_given, answer_number};
 ghost use Rattle.answer_numbers.specs.Numbers.{value_number, standing_number, packed_number, turned_number, numbered, given_numbers};

@@ -1,3 +1,5 @@
 // A program as bytes: its instructions, and the test of its form.
+#![tactic(auto)]
+
 pub mod form;
 pub mod program;

@@ -1,11 +1,32 @@
 // The cabinet program: reads a package from standard input and prints what became of it.
-use libc::{STDIN_FILENO, STDOUT_FILENO};
+#![tactic(auto)]
+
+ghost use Rattle.std.specs.Prelude.{◌≤◌, length, IfOk};
+
+use std::io;
+use std::io::{Read, Write};
+
 use listing::put_listing;
 
+// Reads until the buffer is full or the input ends. The answer is how many bytes were read.
+fn read_full(reader: &mut (impl Read + Drop), buffer: &mut [u8]) -> io::Result<usize>
+    ensures { IfOk result (λ count. count ≤ length buffer.new) }
+{
+    let mut count = 0;
+    for _ in 0..buffer.len() {
+        let got = reader.read(&mut buffer[count..])?;
+        if got == 0 {
+            break;
+        }
+        count += got;
+    }
+    Ok(count)
+}
+
 // A package has at most 65,534 bytes, and longer input fills the buffer. The text has room for 2,048 lines of 64 bytes.
-fn main() {
+fn main(rt: HostRuntime) -> io::Result<()> {
     let mut input = [0u8; 65535];
-    let count = io::read_full(STDIN_FILENO, &mut input);
+    let count = read_full(&mut rt.reader(), &mut input)?;
     let mut held = [0u16; 1];
     let mut timestamps = [0u64; 128];
     let mut order = [0u16; 128];
@@ -47,5 +68,5 @@ fn main() {
         &mut answers,
         &mut text,
     );
-    io::write_all(STDOUT_FILENO, &text[..end]);
+    io::writer(&rt).write_all(&text[..end])
 }

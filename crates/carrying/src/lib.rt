@@ -1,4 +1,6 @@
 // Writes carried into values: those of a list, of a place, of the changes below a position.
+#![tactic(auto)]
+
 ghost use Rattle.std.specs.Prelude.{◌≡◌, ◌<◌, length, get_or};
 ghost use Rattle.machine.specs.Settings.{entries, carry};
 ghost use Rattle.model.specs.Tables.{slots, list_in};

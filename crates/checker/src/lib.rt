@@ -1,4 +1,6 @@
 // The calls turn and drain.
+#![tactic(auto)]
+
 ghost use Rattle.std.specs.Prelude.{◌≡◌};
 ghost use Rattle.model.specs.Tables.{tables, with_turn};
 ghost use Rattle.model.specs.Calls.{reply, turn, totals_reply, drain_with_totals};

@@ -1,4 +1,6 @@
 // The tables of changes cleared: every entry to 0.
+#![tactic(auto)]
+
 ghost use Rattle.clearing.specs.Cleared.{ChangesCleared, ListsCleared};
 
 use zeros::{clear_i32, clear_u8, clear_u16, clear_u64};

@@ -1,4 +1,6 @@
 // The tables of a cutoff closed up to the places that remain.
+#![tactic(auto)]
+
 ghost use Rattle.std.specs.Prelude.{take};
 ghost use Rattle.closing.specs.Closing.{ColumnsClosable, ColumnsClosed, BlocksClosable, BlocksClosed};
 

@@ -1,4 +1,6 @@
 // Tables closed up: the slots of the places that remain are moved down in place, and those behind them are set to 0.
+#![tactic(auto)]
+
 ghost use Rattle.std.specs.Prelude.{◌≡◌, ◌+◌, ◌≤◌, pos, length, take};
 ghost use Rattle.compaction.specs.Closed.{Remaining, moved, closed, Closable, renumbered_by, Renumberable};
 

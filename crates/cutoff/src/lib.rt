@@ -1,4 +1,6 @@
 // The call that raises the cutoff: changes stamped below it are dropped, and each setting's value as of it is kept.
+#![tactic(auto)]
+
 ghost use Rattle.std.specs.Prelude.{◌≡◌};
 ghost use Rattle.model.specs.Tables.{tables, with_cutoff};
 ghost use Rattle.model.specs.Calls.{reply, raise_cutoff};

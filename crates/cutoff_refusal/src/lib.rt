@@ -1,4 +1,6 @@
 // The refusal of the call that raises the cutoff: first that of the tables, then that of the cutoff.
+#![tactic(auto)]
+
 ghost use Rattle.model.specs.Tables.{tables};
 ghost use Rattle.cutoff_refusal.specs.CutoffRefusal.{Judged};
 

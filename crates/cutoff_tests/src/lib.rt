@@ -1,4 +1,6 @@
 // The refusal of a cutoff on tables in form.
+#![tactic(auto)]
+
 ghost use Rattle.std.specs.Prelude.{◌≡◌};
 ghost use Rattle.cutoff_tests.specs.CutoffTests.{refusal_in, Testable};
 

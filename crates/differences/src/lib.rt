@@ -1,4 +1,6 @@
 // The settings at which the values before and those after a change differ: collected, and restored.
+#![tactic(auto)]
+
 ghost use Rattle.std.specs.Prelude.{◌≡◌, ◌+◌, ◌≤◌, length};
 ghost use Rattle.writers.specs.Writers.{OfSettings};
 ghost use Rattle.differences.specs.Differences.{Collected, restored};

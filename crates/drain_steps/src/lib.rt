@@ -1,4 +1,6 @@
 // A drain's step on tables in form: the change at a position is passed over or has its turn.
+#![tactic(auto)]
+
 ghost use Rattle.std.specs.Prelude.{◌+◌, ◌<◌};
 ghost use Rattle.model.specs.Tables.{Tables, with_turn};
 ghost use Rattle.turns.specs.Turns.{with_lent, WithSome, Going};

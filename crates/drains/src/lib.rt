@@ -1,4 +1,6 @@
 // A drain on tables in form: what its pass begins with, and the pass.
+#![tactic(auto)]
+
 ghost use Rattle.std.specs.Prelude.{◌≡◌, length, replicate};
 ghost use Rattle.std.proofs.Math.Option.{some};
 ghost use Rattle.model.specs.Drain.{total_count};

@@ -1,4 +1,6 @@
 // Changes dropped by a cutoff: their writes carried into the kept values, and the order list without them.
+#![tactic(auto)]
+
 ghost use Rattle.std.specs.Prelude.{◌≡◌, ◌<◌, length, get_or};
 ghost use Rattle.machine.specs.Settings.{carry};
 ghost use Rattle.model.specs.Tables.{slots, list_in};

@@ -1,4 +1,6 @@
 // The entries of a package, carried out in order on tables in form.
+#![tactic(auto)]
+
 ghost use Rattle.entry.specs.Entry.{with_lent};
 ghost use Rattle.entries.specs.Entries.{EntriesReady, EntriesTaken};
 

@@ -1,4 +1,6 @@
 // One entry of a package, carried out on tables in form.
+#![tactic(auto)]
+
 ghost use Rattle.model.specs.Package.{item_at};
 ghost use Rattle.tables.specs.Parts.{ItemAnswered};
 ghost use Rattle.entry.specs.Entry.{with_lent, EntryReady};

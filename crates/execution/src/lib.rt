@@ -1,4 +1,6 @@
 // The run of a turn's change, and the new lists that it makes.
+#![tactic(auto)]
+
 ghost use Rattle.std.specs.Prelude.{get_or};
 ghost use Rattle.machine.specs.Instruction.{code};
 ghost use Rattle.machine.specs.Run.{run};

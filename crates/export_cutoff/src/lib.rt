@@ -1,4 +1,6 @@
 // The cutoff for programs in other languages, as a static library. The answer is one number.
+#![tactic(auto)]
+
 ghost use Rattle.std.specs.Prelude.{◌≡◌};
 ghost use Rattle.model.specs.Tables.{tables, with_cutoff};
 ghost use Rattle.model.specs.Calls.{answer_number, reply, raise_cutoff};

@@ -1,4 +1,6 @@
 // Take in, withdraw and take in a package for programs in other languages, as a static library. Each answer is one number.
+#![tactic(auto)]
+
 ghost use Rattle.std.specs.Prelude.{◌≡◌};
 ghost use Rattle.machine.specs.Instruction.{code};
 ghost use Rattle.model.specs.Tables.{tables, with_taking, with_withdrawing, with_package};

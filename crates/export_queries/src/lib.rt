@@ -1,4 +1,6 @@
 // The calls that alter no table for programs in other languages, as a static library. Each answer is one number.
+#![tactic(auto)]
+
 ghost use Rattle.std.specs.Prelude.{◌≡◌};
 ghost use Rattle.model.specs.Tables.{tables};
 ghost use Rattle.model.specs.Calls.{value_given, standing_given, current_value, value_as_of, standing, plain_run, start_values, package_out};

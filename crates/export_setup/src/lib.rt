@@ -1,4 +1,6 @@
 // Set up for programs in other languages, as a static library. The answer is one number.
+#![tactic(auto)]
+
 ghost use Rattle.std.specs.Prelude.{◌≡◌};
 ghost use Rattle.model.specs.Tables.{tables};
 ghost use Rattle.model.specs.Calls.{answer_number, reply, set_up};

@@ -1,4 +1,6 @@
 // Turn and drain for programs in other languages, as a static library. Each answer is one number, and what it tells besides stands in a lent slice.
+#![tactic(auto)]
+
 ghost use Rattle.std.specs.Prelude.{◌≡◌};
 ghost use Rattle.model.specs.Tables.{tables, with_turn};
 ghost use Rattle.model.specs.Calls.{reply, drain_with_totals};

@@ -1,4 +1,6 @@
 // The test of the places' lists: at most 32 entries, of distinct settings, with zeros behind them.
+#![tactic(auto)]
+
 ghost use Rattle.std.specs.Prelude.{◌≡◌, cond, ◌+◌, set};
 ghost use Rattle.general.specs.Lists.{all_below};
 ghost use Rattle.model.specs.Form.{distinct_settings, list_fits};

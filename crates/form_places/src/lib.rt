@@ -1,4 +1,6 @@
 // The tests of the held places: their heads, their order and their programs. Tests are joined by `&`, with no branch between them.
+#![tactic(auto)]
+
 ghost use Rattle.std.specs.Prelude.{◌≡◌, [], ◌∷◌, ◌+◌, ◌*◌, ◌<◌, ◌≤◌, length, get_or};
 ghost use Rattle.general.specs.Lists.{all_below};
 ghost use Rattle.model.specs.Form.{head_fits, program_fits, order_fits, from_cutoff};

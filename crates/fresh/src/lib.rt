@@ -1,4 +1,6 @@
 // Start values, and the run of held changes on settings of their own, in timestamp order.
+#![tactic(auto)]
+
 ghost use Rattle.std.specs.Prelude.{◌≡◌, true, ◌≤◌, length};
 ghost use Rattle.machine.specs.Settings.{value_in, carry};
 ghost use Rattle.machine.specs.Instruction.{code};

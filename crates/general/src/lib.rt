@@ -1,1 +1,2 @@
 // Laws of choices, lists, loops and bits that know nothing of the papers; no functions.
+#![tactic(auto)]

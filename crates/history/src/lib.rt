@@ -1,4 +1,6 @@
 // The cabinet's change history: the calls and the types of their answers.
+#![tactic(auto)]
+
 pub use checker::{drain, turn};
 pub use cutoff::raise_cutoff;
 pub use intake::{take_in, take_in_package, withdraw};

@@ -1,4 +1,6 @@
 // The effect of an instruction on the registers of a run, and the setting that it reads.
+#![tactic(auto)]
+
 ghost use Rattle.std.specs.Prelude.{◌≡◌, ◌<◌, ◌≤◌, true};
 ghost use Rattle.machine.specs.Form.{is_below};
 ghost use Rattle.machine.specs.Run.{effect, wanted, setting_or};

@@ -1,4 +1,6 @@
 // The calls take in, withdraw, and take in a package.
+#![tactic(auto)]
+
 ghost use Rattle.std.specs.Prelude.{◌≡◌};
 ghost use Rattle.machine.specs.Instruction.{code};
 ghost use Rattle.model.specs.Tables.{tables, with_taking, with_withdrawing};

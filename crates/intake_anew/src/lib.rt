@@ -1,4 +1,6 @@
 // A package taken in on tables just set up.
+#![tactic(auto)]
+
 ghost use Rattle.std.specs.Prelude.{◌≡◌};
 ghost use Rattle.model.specs.Tables.{tables};
 ghost use Rattle.model.specs.Calls.{package_reply, set_up, take_in_package};

@@ -1,2 +1,4 @@
 // The run of a program.
+#![tactic(auto)]
+
 pub mod run;

@@ -1,4 +1,6 @@
 // The interpreter for programs in other languages, as a static library.
+#![tactic(auto)]
+
 ghost use Rattle.std.specs.Prelude.{◌≡◌, ◌+◌, ◌*◌, ◌≤◌, length, take};
 ghost use Rattle.machine.specs.Instruction.{code};
 ghost use Rattle.run_record.specs.Record.{ending_of, lists};

@@ -1,4 +1,6 @@
 // The tests of a program to take in that need no search: by itself, and against the program that its timestamp is held with.
+#![tactic(auto)]
+
 ghost use Rattle.std.specs.Prelude.{◌≡◌, ◌*◌, ◌<◌, ◌≤◌, length, get_or};
 ghost use Rattle.machine.specs.Instruction.{code};
 ghost use Rattle.model.specs.Tables.{code_in};

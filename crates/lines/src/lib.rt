@@ -1,4 +1,6 @@
 // The lines of a listing, each put into a buffer of text. A line takes at most 64 bytes.
+#![tactic(auto)]
+
 ghost use Rattle.std.specs.Prelude.{◌+◌, ◌≤◌, length};
 ghost use Rattle.text.specs.Pieces.{Put};
 ghost use Rattle.model.specs.declared.Turned.TheVariants.{Faulted};

@@ -1,4 +1,6 @@
 // Later readers of changed settings are marked, setting by setting. What is known of each setting spares walks in which nothing can be marked.
+#![tactic(auto)]
+
 ghost use Rattle.std.specs.Prelude.{◌≡◌, ◌+◌, ◌-◌, ◌<◌, ◌≤◌, length, get_or};
 ghost use Rattle.machine.specs.Settings.{setting_count};
 ghost use Rattle.model.specs.Form.{holds};

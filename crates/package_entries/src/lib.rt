@@ -1,4 +1,6 @@
 // Numbers and entries of a package, put into a lent slice.
+#![tactic(auto)]
+
 ghost use Rattle.std.specs.Prelude.{◌+◌, ◌*◌, ◌≤◌, length};
 ghost use Rattle.text.specs.Pieces.{Put};
 ghost use Rattle.model.specs.Package.{number_bytes, entry_bytes};

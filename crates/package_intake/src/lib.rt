@@ -1,4 +1,6 @@
 // Taking in a package: the call.
+#![tactic(auto)]
+
 ghost use Rattle.std.specs.Prelude.{◌≡◌};
 ghost use Rattle.model.specs.Tables.{tables, with_package};
 ghost use Rattle.model.specs.Calls.{package_reply, take_in_package};

@@ -1,4 +1,6 @@
 // The call package out: the held changes and their withdrawals as one package, for a cabinet to be filled with.
+#![tactic(auto)]
+
 ghost use Rattle.std.specs.Prelude.{◌≡◌};
 ghost use Rattle.model.specs.Tables.{tables};
 ghost use Rattle.model.specs.Calls.{packed_reply, package_out};

@@ -1,4 +1,6 @@
 // The parts of a package, each put into a lent slice: the entries of the changes, those of the withdrawals, the bodies; and the sums that their lengths come from.
+#![tactic(auto)]
+
 ghost use Rattle.std.specs.Prelude.{◌≡◌, ◌+◌, ◌*◌, ◌≤◌, length};
 ghost use Rattle.text.specs.Pieces.{Put, pieces_below};
 ghost use Rattle.search.specs.Searches.{PlacesWithin};

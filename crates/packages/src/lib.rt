@@ -1,4 +1,6 @@
 // The layout of a package (refusal 3), and the parts of its entries.
+#![tactic(auto)]
+
 ghost use Rattle.std.specs.Prelude.{◌≡◌, ◌&&◌, ◌+◌, ◌*◌, ◌<◌, ◌≤◌, eqb, length};
 ghost use Rattle.general.specs.Lists.{all_below};
 ghost use Rattle.packages.specs.Refusal.{refusal_with};

@@ -1,4 +1,6 @@
 // The package of the held changes put into a lent slice, or refusal 12.
+#![tactic(auto)]
+
 ghost use Rattle.std.specs.Prelude.{◌≡◌};
 ghost use Rattle.model.specs.Calls.{packed_reply};
 ghost use Rattle.packing.specs.Packing.{packed_in};

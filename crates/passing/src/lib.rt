@@ -1,4 +1,6 @@
 // A drain's pass up the order list, on tables in form.
+#![tactic(auto)]
+
 ghost use Rattle.std.specs.Prelude.{◌≡◌, ◌≤◌, replicate};
 ghost use Rattle.model.specs.Drain.{total_count};
 ghost use Rattle.model.specs.Tables.{Tables, with_turn};

@@ -1,4 +1,6 @@
 // What follows new writes of a change, in Figure 1's order: later readers are marked, the view follows, and the values are those after the new writes.
+#![tactic(auto)]
+
 ghost use Rattle.machine.specs.Settings.{entries};
 ghost use Rattle.uses.specs.Columns.{columns};
 ghost use Rattle.propagation.specs.Propagated.{Propagable, Propagated};

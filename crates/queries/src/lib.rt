@@ -1,4 +1,6 @@
 // The calls that only read: current value, value as of a timestamp, standing of a timestamp, plain run, start values.
+#![tactic(auto)]
+
 ghost use Rattle.std.specs.Prelude.{◌≡◌};
 ghost use Rattle.model.specs.Tables.{tables};
 ghost use Rattle.model.specs.Calls.{current_value, value_as_of, standing, plain_reply, plain_run};

@@ -1,4 +1,6 @@
 // The answers of the queries on tables in form, from the lists that each is lent, and the start values, which need none.
+#![tactic(auto)]
+
 ghost use Rattle.std.specs.Prelude.{◌≡◌, length};
 ghost use Rattle.model.specs.Calls.{plain_reply, start_values};
 ghost use Rattle.writers.specs.Writers.{WriteLists};

@@ -1,4 +1,6 @@
 // A change's lists replaced, with all that follows from it, in Figure 1's order: later readers marked, the view, the read list, the write list.
+#![tactic(auto)]
+
 ghost use Rattle.std.specs.Prelude.{◌≡◌};
 ghost use Rattle.acts.specs.declared.Act.TheVariants as variant;
 ghost use Rattle.uses.specs.Columns.{columns};

@@ -1,4 +1,6 @@
 // The reply to a package as text: its entries, the turns of one drain, and the settings that differ from their start.
+#![tactic(auto)]
+
 ghost use Rattle.std.specs.Prelude.{◌≡◌, ◌+◌, ◌≤◌, length};
 ghost use Rattle.text.specs.Pieces.{Put};
 ghost use Rattle.model.specs.Tables.{tables};

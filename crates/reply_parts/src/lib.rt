@@ -1,4 +1,6 @@
 // The parts of a reply that no table is lent for: the lines of its entries, those of its settings, and whether a turn was idle.
+#![tactic(auto)]
+
 ghost use Rattle.std.specs.Prelude.{◌≡◌, true, ◌+◌, ◌≤◌, length};
 ghost use Rattle.text.specs.Pieces.{Put};
 ghost use Rattle.model.specs.Package.{layout_fits};

@@ -1,5 +1,7 @@
 // The run record: what passes by value from one instruction to the next. The read and write lists stand in arrays of
 // the caller, as many entries of them as the record counts.
+#![tactic(auto)]
+
 ghost use Rattle.std.specs.Prelude.{◌≡◌, ◌+◌, ◌<◌, ◌≤◌, ltb, set};
 ghost use Rattle.run_record.specs.Record.{pick, begun, assigned, advanced, ended, entered_read, entered_write};
 

@@ -1,4 +1,6 @@
 // An effect carried out on a run record and the caller's arrays. The rules of the versions are in `load` and `store`.
+#![tactic(auto)]
+
 ghost use Rattle.std.specs.Prelude.{◌≡◌, ℕ, ◌<◌, ◌≤◌, List, ℤ, length};
 ghost use Rattle.machine.specs.declared.Effect.TheVariants.{Load, Store};
 ghost use Rattle.machine.specs.Settings.{Environment, everywhere};

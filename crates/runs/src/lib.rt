@@ -1,4 +1,6 @@
 // A program run on the values as of a position of the order list.
+#![tactic(auto)]
+
 ghost use Rattle.std.specs.Prelude.{◌≡◌, true, ◌≤◌, length};
 ghost use Rattle.machine.specs.Instruction.{code};
 ghost use Rattle.machine.specs.Form.{all_well_formed};

@@ -1,4 +1,6 @@
 // Searches in the order list: a timestamp, and the change whose turn it is.
+#![tactic(auto)]
+
 ghost use Rattle.std.specs.Prelude.{◌≡◌, length};
 ghost use Rattle.search.specs.Searches.{rank_of, stamped_at, position_of, found_of, waiting_of, PlacesWithin};
 

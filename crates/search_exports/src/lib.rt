@@ -1,4 +1,6 @@
 // The search for the previous writer for programs in other languages, as a static library: many searches of the same tables, which are tested once before them.
+#![tactic(auto)]
+
 ghost use Rattle.std.specs.Prelude.{◌≡◌, length};
 ghost use Rattle.search_exports.specs.Answers.{each_below, table_refusal, number_of, search_report, searches_report};
 

@@ -1,4 +1,6 @@
 // Set up: every table to 0, the view and the kept values to the start values.
+#![tactic(auto)]
+
 ghost use Rattle.std.specs.Prelude.{◌≡◌};
 ghost use Rattle.model.specs.Tables.{tables};
 ghost use Rattle.model.specs.Calls.{reply, set_up};

@@ -1,4 +1,6 @@
 // A single turn on tables in form.
+#![tactic(auto)]
+
 ghost use Rattle.std.specs.Prelude.{◌≡◌, length};
 ghost use Rattle.model.specs.Tables.{Tables, with_turn};
 ghost use Rattle.model.specs.Calls.{reply};

@@ -1,4 +1,6 @@
 // The factory settings: the value that each setting starts at, in one constant table.
+#![tactic(auto)]
+
 mod table;
 
 ghost use Rattle.std.specs.Prelude.{◌≡◌};

@@ -1,4 +1,6 @@
 // Lists stored at a place: only the slots up to the longer of the old and the new list, since those behind hold 0.
+#![tactic(auto)]
+
 ghost use Rattle.std.specs.Prelude.{◌≡◌, pos, take};
 ghost use Rattle.storing.specs.Stored.{replaced, replaced_z, Storable, ListStorable, ListPut, new_lists, ListsStorable, ListsPut};
 

@@ -1,4 +1,6 @@
 // The lent tables: their lengths, the test of their form, and how many changes they hold.
+#![tactic(auto)]
+
 pub mod form;
 
 ghost use Rattle.std.specs.Prelude.{◌≡◌, length, get_or};

@@ -1,4 +1,6 @@
 // Taking in a program, on tables in form.
+#![tactic(auto)]
+
 ghost use Rattle.std.specs.Prelude.{◌≡◌, ◌+◌, ◌<◌, ◌≤◌, length};
 ghost use Rattle.machine.specs.Instruction.{code};
 ghost use Rattle.model.specs.Package.{taking};

@@ -1,4 +1,6 @@
 // Text in a lent buffer: pieces put one after another.
+#![tactic(auto)]
+
 ghost use Rattle.std.specs.Prelude.{◌+◌, ◌≤◌, length};
 ghost use Rattle.text.specs.Pieces.{Put};
 ghost use Rattle.text.specs.Decimal.{decimal, signed_decimal};

@@ -1,1 +1,3 @@
 // Theorems about the definitions of model; nothing depends on them.
+#![tactic(auto)]
+

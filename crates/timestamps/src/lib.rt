@@ -1,4 +1,6 @@
 // Which numbers are timestamps.
+#![tactic(auto)]
+
 ghost use Rattle.std.specs.Prelude.{◌≡◌};
 ghost use Rattle.model.specs.History.{is_timestamp};
 

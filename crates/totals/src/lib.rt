@@ -1,4 +1,6 @@
 // The totals of a drain for each console: turns are counted one by one.
+#![tactic(auto)]
+
 ghost use Rattle.std.specs.Prelude.{◌≡◌, ◌<◌};
 ghost use Rattle.model.specs.Drain.{console};
 ghost use Rattle.totals.specs.Counted.{Countable, counted_at, counted_in};

@@ -1,4 +1,6 @@
 // What a turn tells of its change: whether it stands, and the answer.
+#![tactic(auto)]
+
 ghost use Rattle.std.specs.Prelude.{◌≡◌};
 ghost use Rattle.run_record.specs.Record.{ending_of};
 ghost use Rattle.model.specs.Calls.{run_answer};

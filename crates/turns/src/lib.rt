@@ -1,4 +1,6 @@
 // The turn, on tables in form, of the change at a position of the order list: for a single turn and for a drain.
+#![tactic(auto)]
+
 ghost use Rattle.std.specs.Prelude.{◌≡◌, true, ◌+◌};
 ghost use Rattle.model.specs.Tables.{Tables, with_turn};
 ghost use Rattle.model.specs.Calls.{reply};

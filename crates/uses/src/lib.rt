@@ -1,4 +1,6 @@
 // How far each setting matters: of each one past the last Valid change that reads it, and one past the last change that writes it.
+#![tactic(auto)]
+
 ghost use Rattle.std.specs.Prelude.{◌≡◌, ◌<◌, ◌≤◌, length};
 ghost use Rattle.writers.specs.Writers.{OfSettings};
 ghost use Rattle.uses.specs.Columns.{columns, list_at, Listed, Walkable};

@@ -1,4 +1,6 @@
 // The values as of a position of the order list: looked up once each, and then known.
+#![tactic(auto)]
+
 ghost use Rattle.std.specs.Prelude.{◌≡◌, ◌<◌, length};
 ghost use Rattle.machine.specs.Settings.{entries};
 ghost use Rattle.model.specs.History.{all_hold};

@@ -1,4 +1,6 @@
 // The view follows a turn, setting by setting.
+#![tactic(auto)]
+
 ghost use Rattle.std.specs.Prelude.{◌≡◌, ◌+◌, ◌<◌, length};
 ghost use Rattle.machine.specs.Settings.{setting_count};
 ghost use Rattle.writers.specs.Writers.{OfSettings};

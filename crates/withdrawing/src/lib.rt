@@ -1,4 +1,6 @@
 // Withdrawing a change, on tables in form.
+#![tactic(auto)]
+
 ghost use Rattle.std.specs.Prelude.{◌≡◌};
 ghost use Rattle.model.specs.Package.{withdrawing};
 ghost use Rattle.tables.specs.Parts.{PartFormed, ItemAnswered};

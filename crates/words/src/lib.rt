@@ -1,4 +1,6 @@
 // Operations on signed 32-bit numbers: arithmetic wrapped modulo 2^32, shifts, counts and tests.
+#![tactic(auto)]
+
 ghost use Rattle.std.specs.Prelude.{◌≡◌, ◌^◌, ◌<◌, pos, ◌+ℤ◌, ◌-ℤ◌, neg_ℤ};
 ghost use Rattle.std.specs.Int.Bits.{bit_and, bit_or, bit_xor};
 ghost use Rattle.std.specs.Int.Signed.{lt_z};

@@ -1,4 +1,6 @@
 // The writers of a setting: whether a list names it, and its previous writer below a position of the order list.
+#![tactic(auto)]
+
 ghost use Rattle.std.specs.Prelude.{◌≡◌, ◌+◌, ◌*◌, ◌<◌, ◌≤◌, length, drop};
 ghost use Rattle.machine.specs.Settings.{lookup, entries};
 ghost use Rattle.model.specs.Form.{holds};

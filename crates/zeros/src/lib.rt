@@ -1,4 +1,6 @@
 // Zeros: whether a slice holds nothing else, and a slice set to them.
+#![tactic(auto)]
+
 ghost use Rattle.std.specs.Prelude.{◌≡◌, pos, length, drop, replicate};
 ghost use Rattle.model.specs.Form.{all_zero, all_zero_z};
 
