@@ -15,7 +15,7 @@ abbrev decreases-loop : tie.decreases-loop-i
 decreases-loop s start any₀ i₀ any i = length s - i
 
 loop-again : tie.Need-loop-i-preserved invariant-loop decreases-loop
-loop-again c = gather-next_z (record { sfits = c.any.given }) c.before.loop-i-test.true c.before.before.loop-i.invariant
+loop-again c = gather-next_z (search rules) c.before.loop-i-test.true c.before.before.loop-i.invariant
 
 returns : tie.Need-returns invariant-loop decreases-loop
 returns c = gather-last refl c.loop-i-test.false c.before.loop-i.invariant
