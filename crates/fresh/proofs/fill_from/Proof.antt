@@ -23,7 +23,7 @@ loop-again c =
     let at-loop : tie.At-loop-i invariant-loop decreases-loop = search in
     let start : tie.Start invariant-loop decreases-loop = search in
     let l = at-loop.loop-i in
-    rw (to_z-of_z (sfits_of c.values.given)) (fill-next (omega (arith, l.invariant.same, start.requires.1)) l.invariant)
+    rw (to_z-of_z (sfits_of c.values-1.given)) (fill-next (omega (arith, l.invariant.same, start.requires.1)) l.invariant)
 
 returns : tie.Need-returns invariant-loop decreases-loop
 returns c =

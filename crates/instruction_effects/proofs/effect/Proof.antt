@@ -21,10 +21,10 @@ abbrev entry : tie.After-x-1 → tie.Start
 entry c = search
 
 b-fits : (c : tie.After-x-1) → SFits w32 (register_in (entry c).args.run.registers (entry c).args.i.b)
-b-fits c = record { sfits = c.x.given }
+b-fits c = record { sfits = c.x-1.given }
 
 c-fits : (c : tie.After-y-1) → SFits w32 (register_in (entry (search)).args.run.registers (entry (search)).args.i.c)
-c-fits c = record { sfits = c.y.given }
+c-fits c = record { sfits = c.y-1.given }
 
 returns : tie.Need-returns-then-k-eq0
 unfolding effect
@@ -51,7 +51,7 @@ returns-4 : tie.Need-returns-then-k-lt15
 returns-4 c =
     let z : tie.After-z-1 = search in
     let x : tie.After-x-1 = search in
-    rw (to_z-of_z {w = w32} {z = c.pick-then-k-lt15.result} (sfits_of c.pick-then-k-lt15.type_inv), c.pick-then-k-lt15.ensures, to_z-of_z (b-fits x), to_z-of_z (n-fits (entry x)), to_z-of_z (sfits_of z.z.given)) (sym (effect-stores _ _ (omega arith) (omega arith)))
+    rw (to_z-of_z {w = w32} {z = c.pick-then-k-lt15.result} (sfits_of c.pick-then-k-lt15.type_inv), c.pick-then-k-lt15.ensures, to_z-of_z (b-fits x), to_z-of_z (n-fits (entry x)), to_z-of_z (sfits_of z.z-1.given)) (sym (effect-stores _ _ (omega arith) (omega arith)))
 
 returns-5 : tie.Need-returns
 returns-5 c =

@@ -22,7 +22,7 @@ returns : tie.Need-returns-then-is_below
 returns c = rw (to_z-of_z (start c).ranges.s, below c)
 
 returns-2 : tie.Need-returns
-returns-2 c = let at-start : tie.Start = search in rw (← to_z-of_z at-start.fits.s, ← c.before.is_below.ensures, c.if-is_below.false)
+returns-2 c = let at-start : tie.Start = search in rw (← to_z-of_z at-start.ranges.s, ← c.before.is_below.ensures, c.if-is_below.false)
 
 pub setting_or_spec : {M : Type 1} → statement M
 setting_or_spec = tie.close (tie.spec (λ c κs. tt) cast-result returns returns-2)

@@ -20,7 +20,7 @@ loop-again : tie.Need-loop-i-preserved invariant-loop decreases-loop
 loop-again c =
     let at-loop : tie.At-loop-i invariant-loop decreases-loop = search in
     let l = at-loop.loop-i in
-    (omega arith, simp length-set l.invariant.1, rw (to_z-of_z (sfits_of c.lent.given)) (copied_more _ _ _ l.invariant.2 _ (omega arith) (omega arith)))
+    (omega arith, simp length-set l.invariant.1, rw (to_z-of_z (sfits_of c.lent-1.given)) (copied_more _ _ _ l.invariant.2 _ (omega arith) (omega arith)))
 
 returns : tie.Need-returns invariant-loop decreases-loop
 returns c =

@@ -80,7 +80,7 @@ returns-2 c =
     let e = passed (search) in
     let s = entry e.before in
     ran _ s.args.values.now (lent s) e.before.run_refusal-refusal.ensures e.if-refusal-ne0.false r.run_program-run.ensures
-    q.copy_settings.ensures v.copy_values.ensures t.copy_settings-2.ensures d.copy_values-2.ensures c.number_of_lem.ensures
+    q.copy_settings.ensures v.copy_values.ensures t.copy_settings-2.ensures d.copy_values-2.ensures c.number_of.ensures
 
 pub tolbezun_program_run_spec : {M : Type 1} → statement M
 tolbezun_program_run_spec =

@@ -3,6 +3,7 @@ use mathlib.Core.Path.{sym, ◌∙◌}
 use native.Mathlib.Omega.{arith}
 use borrow.Author.Rules.{rules, sfits_of}
 use mir.Facts.{to_z-of_z}
+use mir.Syntax.{w32}
 use Rattle.run_steps.proofs.Steps.{in-reads, in-writes, load-of-none, load-of-written, load-back, load_again, load-first}
 use Rattle.run_steps.proofs.load.Statement.{statement}
 use Rattle.run_steps.proofs.load.Tie as tie
@@ -12,7 +13,7 @@ returns c =
     let at-then1 : tie.Then-k-ge1024 = search in
     let at-setting-or : tie.After-setting_or-k = search in
     let s : tie.Start = search in
-    rw (← to_z-of_z s.fits.s, c.fault.ensures) (load-of-none _ _ _ s.requires.0 s.requires.2 _ _ at-setting-or.setting_or-k.ensures at-then1.if-k-ge1024.true)
+    rw (← to_z-of_z s.ranges.s, c.fault.ensures) (load-of-none _ _ _ s.requires.0 s.requires.2 _ _ at-setting-or.setting_or-k.ensures at-then1.if-k-ge1024.true)
 
 returns-2 : tie.Need-returns-then-run-eq0
 returns-2 c =
@@ -23,7 +24,7 @@ returns-2 c =
     let n : tie.After-first_place-own = search in
     let s : tie.Start = search in
     let own = in-writes s.requires.0 s.requires.2 (n.first_place-own.ensures s.requires.2.targets) in
-    rw (← to_z-of_z s.fits.s, c.fault-then-run-eq0.ensures)
+    rw (← to_z-of_z s.ranges.s, c.fault-then-run-eq0.ensures)
     (load-of-written _ _ _ s.requires.0 s.requires.2 _ _ at-setting-or.setting_or-k.ensures at-else1.if-k-ge1024.false at-then3.if-run-eq0.true (own.is-named at-then2.if-own-run.true))
 
 advance-requires : tie.Need-advance-requires
@@ -41,8 +42,8 @@ returns-3 c =
     let s : tie.Start = search in
     let own = in-writes s.requires.0 s.requires.2 (n.first_place-own.ensures s.requires.2.targets) in
     let w = at-then2.if-own-run.true in
-    rw (← to_z-of_z s.fits.s, c.advance.ensures, at-assign.assign.ensures)
-    (load-back _ _ _ s.requires.0 s.requires.2 _ _ at-setting-or.setting_or-k.ensures at-else1.if-k-ge1024.false e.if-run-eq0.false (own.is-named w) (own.value w ∙ sym (to_z-of_z (sfits_of at_value.assign-arg-1.given))))
+    rw (← to_z-of_z s.ranges.s, c.advance.ensures, at-assign.assign.ensures)
+    (load-back _ _ _ s.requires.0 s.requires.2 _ _ at-setting-or.setting_or-k.ensures at-else1.if-k-ge1024.false e.if-run-eq0.false (own.is-named w) (own.value w ∙ sym (to_z-of_z {w = w32} (sfits_of at_value.assign-arg-1.given))))
 
 advance-requires-2 : tie.Need-advance-requires-then-first_place-run
 advance-requires-2 c κs = rw c.assign-then-first_place-run.ensures (omega arith)
@@ -59,7 +60,7 @@ returns-4 c =
     let s : tie.Start = search in
     let own = in-writes s.requires.0 s.requires.2 (n.first_place-own.ensures s.requires.2.targets) in
     let found = in-reads s.requires.0 s.requires.2 (m.first_place.ensures s.requires.2.sources) in
-    rw (← to_z-of_z s.fits.s, ← to_z-of_z s.fits.v, c.advance-then-first_place-run.ensures, at-assign2.assign-then-first_place-run.ensures)
+    rw (← to_z-of_z s.ranges.s, ← to_z-of_z s.ranges.v, c.advance-then-first_place-run.ensures, at-assign2.assign-then-first_place-run.ensures)
     (load_again _ _ _ s.requires.0 s.requires.2 _ _ at-setting-or.setting_or-k.ensures at-else1.if-k-ge1024.false
     (own.not_named at-else2.if-own-run.false)
     (found.is-named at-then4.if-first_place-run.true))
@@ -89,7 +90,7 @@ returns-5 c =
     let s : tie.Start = search in
     let own = in-writes s.requires.0 s.requires.2 (n.first_place-own.ensures s.requires.2.targets) in
     let found = in-reads s.requires.0 s.requires.2 (m.first_place.ensures s.requires.2.sources) in
-    rw (← to_z-of_z s.fits.s, ← to_z-of_z s.fits.v, c.advance-2.ensures, at-assign3.assign-2.ensures, e.enter_read.ensures.0, e.enter_read.ensures.1, e.enter_read.ensures.2)
+    rw (← to_z-of_z s.ranges.s, ← to_z-of_z s.ranges.v, c.advance-2.ensures, at-assign3.assign-2.ensures, e.enter_read.ensures.0, e.enter_read.ensures.1, e.enter_read.ensures.2)
     (load-first _ _ _ s.requires.0 s.requires.2 _ _ at-setting-or.setting_or-k.ensures at-else1.if-k-ge1024.false
     (own.not_named at-else2.if-own-run.false)
     (found.not_named at-else4.if-first_place-run.false))

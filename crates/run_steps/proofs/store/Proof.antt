@@ -11,7 +11,7 @@ returns c =
     let at-then1 : tie.Then-k-ge1024 = search in
     let at-setting-or : tie.After-setting_or-k = search in
     let s : tie.Start = search in
-    λ env p q z. rw (← to_z-of_z s.fits.s, c.fault.ensures) (store-to-none _ _ _ s.requires z _ _ at-setting-or.setting_or-k.ensures at-then1.if-k-ge1024.true)
+    λ env p q z. rw (← to_z-of_z s.ranges.s, c.fault.ensures) (store-to-none _ _ _ s.requires z _ _ at-setting-or.setting_or-k.ensures at-then1.if-k-ge1024.true)
 
 returns-2 : tie.Need-returns-then-run-eq0
 returns-2 c =
@@ -21,7 +21,7 @@ returns-2 c =
     let at-setting-or : tie.After-setting_or-k = search in
     let n : tie.After-first_place-own = search in
     let s : tie.Start = search in
-    λ env p q z. rw (← to_z-of_z s.fits.s, c.fault-then-run-eq0.ensures)
+    λ env p q z. rw (← to_z-of_z s.ranges.s, c.fault-then-run-eq0.ensures)
     (store-again _ _ _ s.requires z _ _ at-setting-or.setting_or-k.ensures at-else1.if-k-ge1024.false at-then3.if-run-eq0.true
     ((in-writes s.requires z (n.first_place-own.ensures z.targets)).is-named at-then2.if-own-run.true))
 
@@ -35,7 +35,7 @@ returns-3 c =
     let s : tie.Start = search in
     λ env p q z.
     let own = in-writes s.requires z (n.first_place-own.ensures z.targets) in
-    rw (← to_z-of_z s.fits.s, to_z-of_z s.fits.v, c.advance.ensures)
+    rw (← to_z-of_z s.ranges.s, to_z-of_z s.ranges.v, c.advance.ensures)
     (store-over _ _ _ s.requires z _ _ at-setting-or.setting_or-k.ensures _ at-else1.if-k-ge1024.false at-else3.if-run-eq0.false (own.is-named w.if-own-run.true) (own.replaced _ w.if-own-run.true))
 
 advance-requires-2 : tie.Need-advance-requires-2
@@ -49,7 +49,7 @@ returns-4 c =
     let e : tie.After-enter_write = search in
     let n : tie.After-first_place-own = search in
     let s : tie.Start = search in
-    λ env p q z. rw (← to_z-of_z s.fits.s, ← to_z-of_z s.fits.v, c.advance-2.ensures, e.enter_write.ensures.0, e.enter_write.ensures.1, e.enter_write.ensures.2)
+    λ env p q z. rw (← to_z-of_z s.ranges.s, ← to_z-of_z s.ranges.v, c.advance-2.ensures, e.enter_write.ensures.0, e.enter_write.ensures.1, e.enter_write.ensures.2)
     (store-first _ _ _ s.requires z _ _ at-setting-or.setting_or-k.ensures at-else1.if-k-ge1024.false
     ((in-writes s.requires z (n.first_place-own.ensures z.targets)).not_named at-else2.if-own-run.false))
 

@@ -4,6 +4,7 @@ use Prim.Native.Nat.{◌-◌, ◌<◌}
 use native.Mathlib.Omega.{arith}
 use borrow.Author.Rules.{sfits_of}
 use mir.Facts.{to_z-of_z}
+use mir.Syntax.{w32}
 use Rattle.machine.specs.declared.Instruction.{Instruction}
 use Rattle.machine.specs.Settings.{Environment}
 use Rattle.machine.specs.Instruction.{instruction_at, instruction_count, code}
@@ -32,7 +33,7 @@ entry c = search
 
 -- the values as of the position
 abbrev upto : tie.Start invariant-loop decreases-loop → Environment
-upto c = let a = c.args in values_below a.order.now a.writes.now a.targets.now a.written.now a.auto.now a.k
+upto c = let a = c.args in values_below a.order.now a.writes.now a.targets.now a.written.now a.kept.now a.k
 
 loop-holds : tie.Need-loop-place-init invariant-loop decreases-loop
 loop-holds c =
@@ -70,7 +71,7 @@ wanted-value-requires c κs =
 value-is : (c : tie.After-wanted_value-v invariant-loop decreases-loop) → read c.wanted_value-v.result ≡ on_settings (upto (entry (head (effected c)))) (wanted (effected c).effect-e.result)
 value-is c =
     let asked : tie.After-wanted invariant-loop decreases-loop = search in
-    to_z-of_z (sfits_of c.wanted_value-v.type_inv) ∙ c.wanted_value-v.ensures.0 ∙ ap (on_settings (upto (entry (head (effected c))))) asked.wanted.ensures
+    to_z-of_z {w = w32} (sfits_of c.wanted_value-v.type_inv) ∙ c.wanted_value-v.ensures.0 ∙ ap (on_settings (upto (entry (head (effected c))))) asked.wanted.ensures
 
 perform-requires : tie.Need-perform-run-requires invariant-loop decreases-loop
 perform-requires c κs =

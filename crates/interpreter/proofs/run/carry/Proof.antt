@@ -39,7 +39,7 @@ loop-again : tie.Need-loop-i-preserved invariant-loop decreases-loop
 loop-again c =
     let at-loop : tie.At-loop-i invariant-loop decreases-loop = search in
     let l = at-loop.loop-i in
-    (omega arith, rw (to_z-of_z (sfits_of c.values.given), l.invariant.1) (carry-stored l.i _ _ _ (omega arith) (omega arith)))
+    (omega arith, rw (to_z-of_z (sfits_of c.values-1.given), l.invariant.1) (carry-stored l.i _ _ _ (omega arith) (omega arith)))
 
 returns : tie.Need-returns invariant-loop decreases-loop
 returns c =

@@ -4,6 +4,7 @@ use Prim.Native.Nat.{◌-◌}
 use native.Mathlib.Omega.{arith}
 use borrow.Author.Rules.{sfits_of}
 use mir.Facts.{to_z-of_z}
+use mir.Syntax.{w32}
 use Rattle.machine.specs.declared.Instruction.{Instruction}
 use Rattle.machine.specs.Settings.{value_in}
 use Rattle.machine.specs.Run.{effect, wanted}
@@ -42,7 +43,7 @@ effect_is c =
     c.effect-e.ensures ∙ ap (λ (i : Instruction). effect i l.run.registers) (at-instruction-at.instruction_at.ensures ∙ ap (instruction_at (entry (head c)).args.program.now) (sym l.invariant.1))
 
 value-is : (c : tie.After-value_in-v invariant-loop decreases-loop) → read c.value_in-v.result ≡ value_in (entry (head c.before.before)).args.values.now (wanted c.before.before.effect-e.result)
-value-is c = let at-wanted : tie.After-wanted invariant-loop decreases-loop = search in to_z-of_z (sfits_of c.value_in-v.type_inv) ∙ c.value_in-v.ensures ∙ ap (value_in (entry (head (search))).args.values.now) at-wanted.wanted.ensures
+value-is c = let at-wanted : tie.After-wanted invariant-loop decreases-loop = search in to_z-of_z {w = w32} (sfits_of c.value_in-v.type_inv) ∙ c.value_in-v.ensures ∙ ap (value_in (entry (head (search))).args.values.now) at-wanted.wanted.ensures
 
 perform-requires : tie.Need-perform-run-requires invariant-loop decreases-loop
 perform-requires c κs =

@@ -8,7 +8,7 @@ use Rattle.run_record.proofs.Registers.{picks}
 use Rattle.run_record.proofs.Run.assign.Statement.{statement}
 use Rattle.run_record.proofs.Run.assign.Tie as tie
 
-eight : (c : tie.Start) → length c.args.t1.registers ≡ 8
+eight : (c : tie.Start) → length c.args.self.registers ≡ 8
 eight c = search rules
 
 returns : tie.Need-returns
@@ -21,11 +21,11 @@ returns c =
     let p2 : tie.After-pick-2 = search in
     let p1 : tie.After-pick = search in
     let s : tie.Start = search in
-    let r = s.args.t1 in
+    let r = s.args.self in
     let set =
     picks r.registers
     (p1.pick.result ∷ p2.pick-2.result ∷ p3.pick-3.result ∷ p4.pick-4.result ∷ p5.pick-5.result ∷ p6.pick-6.result ∷ p7.pick-7.result ∷ c.pick-8.result ∷ [])
-    s.args.a (eight s) refl s.requires s.fits.v
+    s.args.a (eight s) refl s.requires s.ranges.v
     ((p1.pick.ensures, p1.before.pick-arg-1.given)
     then (p2.pick-2.ensures, p2.before.pick-arg-2-1.given)
     then (p3.pick-3.ensures, p3.before.pick-arg-3-1.given)
