@@ -46,7 +46,7 @@ same_length c =
     let at-loop : tie.At-loop-j invariant-loop decreases-loop = search in
     let l = at-loop.loop-j in
     let s : tie.Start invariant-loop decreases-loop = search in
-    same_len_mid (s.args.width * s.args.count) (length l.table - s.args.width * s.args.count) l.table at-clear-i32.clear_i32.last.0 at-clear-i32.clear_i32.auto.0 ∙ l.invariant.1.same
+    same_len_mid (s.args.width * s.args.count) (length l.table - s.args.width * s.args.count) l.table at-clear-i32.clear_i32.new.s at-clear-i32.clear_i32.auto.s ∙ l.invariant.1.same
 
 returns : tie.Need-returns invariant-loop decreases-loop
 returns c =

@@ -47,7 +47,7 @@ same_length c =
     let at-loop : tie.At-loop-j invariant-loop decreases-loop = search in
     let l = at-loop.loop-j in
     let s : tie.Start invariant-loop decreases-loop = search in
-    same_len_mid (s.args.width * s.args.count) (length l.table - s.args.width * s.args.count) l.table at-clear-u8.clear_u8.last.0 at-clear-u8.clear_u8.auto.0 ∙ l.invariant.1.same
+    same_len_mid (s.args.width * s.args.count) (length l.table - s.args.width * s.args.count) l.table at-clear-u8.clear_u8.new.s at-clear-u8.clear_u8.auto.s ∙ l.invariant.1.same
 
 returns : tie.Need-returns invariant-loop decreases-loop
 returns c =

@@ -1,12 +1,12 @@
 -- `compaction::find_remaining` meets its contract: place by place. Assumes nothing.
 use mathlib.Core.Path.{◌≡◌}
-use mathlib.Core.Logic.{⊎_elim}
 use Prim.Native.Nat.{◌≤◌, ◌-◌}
 use native.Mathlib.Omega.{arith}
 use borrow.Author.Rules.{rules}
 use Rattle.compaction.proofs.Places.{Looked, look_none, look-few, look-remains, look-dropped}
 use Rattle.compaction.proofs.find_remaining.Statement.{statement}
 use Rattle.compaction.proofs.find_remaining.Tie as tie
+use Rattle.compaction.proofs.find_remaining.Lts.{then-t-timestamps, else-t-timestamps}
 
 abbrev invariant-loop : tie.invariant-loop-i
 invariant-loop t count timestamps places₀ numbers₀ found₀ i₀ places numbers found i = (i ≤ count) × Looked t timestamps i found places numbers
@@ -24,7 +24,7 @@ loop-again : tie.Need-loop-i-preserved invariant-loop decreases-loop
 loop-again c =
     let at-loop : tie.At-loop-i invariant-loop decreases-loop = search in
     let l = at-loop.loop-i in
-    (omega arith, ⊎_elim (λ w. look-remains l.invariant.1 (omega arith) (omega (arith, w.0.true)) w.1) (λ w. look-dropped l.invariant.1 (omega arith) (omega (arith, w.0.false)) w.1) c.if-t-timestamps.branch)
+    (omega arith, elim c.if-t-timestamps.branch [ then-t-timestamps w ↦ look-remains l.invariant.1 (omega arith) (omega (arith, w.if-t-timestamps.true)) w.found-is | else-t-timestamps w ↦ look-dropped l.invariant.1 (omega arith) (omega (arith, w.if-t-timestamps.false)) w.found-is ])
 
 returns : tie.Need-returns invariant-loop decreases-loop
 returns c =

@@ -43,7 +43,7 @@ same_length c =
     let at-loop : tie.At-loop-j invariant-loop decreases-loop = search in
     let l = at-loop.loop-j in
     let s : tie.Start invariant-loop decreases-loop = search in
-    same_len_mid (s.args.count - s.args.first) (length l.order - (s.args.count - s.args.first)) l.order at-clear-u16.clear_u16.last.0 at-clear-u16.clear_u16.auto.0 ∙ l.invariant.1.same
+    same_len_mid (s.args.count - s.args.first) (length l.order - (s.args.count - s.args.first)) l.order at-clear-u16.clear_u16.new.s at-clear-u16.clear_u16.auto.s ∙ l.invariant.1.same
 
 returns : tie.Need-returns invariant-loop decreases-loop
 returns c =

@@ -3,7 +3,6 @@ use mathlib.Core.Path.{◌≡◌, sym, ◌∙◌}
 use mathlib.Core.Bool.{true}
 use native.Mathlib.Omega.{arith}
 use borrow.Author.Rules.{rules}
-use borrow.Author.Tests.{not-true, not-false}
 use Rattle.model.specs.History.{is_timestamp}
 use Rattle.search.proofs.Answers.{found_at, found_nothing}
 use Rattle.cutoff_tests.specs.CutoffTests.{Testable}
@@ -31,10 +30,10 @@ asked : (c : tie.Else-fault-ne0) → let a = (entry c).args in Testable a.held.n
 asked c = (entry c).requires c.if-fault-ne0.false
 
 is-stamp : (c : tie.Else-not-is_timestamp) → is_timestamp (entry (formed c)).args.timestamp ≡ true
-is-stamp c = sym c.before.is_timestamp.ensures ∙ not-false _ c.if-not-is_timestamp.false
+is-stamp c = sym c.before.is_timestamp.ensures ∙ c.if-not-is_timestamp.false
 
 returns-2 : tie.Need-returns-then-not-is_timestamp
-returns-2 c = let at-else1 : tie.Else-fault-ne0 = search in no-timestamp _ _ _ _ _ _ at-else1.if-fault-ne0.false (sym c.before.is_timestamp.ensures ∙ not-true _ c.if-not-is_timestamp.true)
+returns-2 c = let at-else1 : tie.Else-fault-ne0 = search in no-timestamp _ _ _ _ _ _ at-else1.if-fault-ne0.false (sym c.before.is_timestamp.ensures ∙ c.if-not-is_timestamp.true)
 
 returns-3 : tie.Need-returns-then-timestamp-cutoff
 returns-3 c =
@@ -49,21 +48,19 @@ waiting-requires c κs = let at-held-count : tie.After-held_count-count = search
 
 returns-4 : tie.Need-returns-then-k-first
 returns-4 c =
-    let at-found : tie.In-At-2 = search in
     let at-rank : tie.After-rank-first = search in
     let at-held-count : tie.After-held_count-count = search in
     let w : tie.After-waiting-found = search in
     let u = stamped (above w) in
-    unsettled-before _ _ _ _ _ _ (formed u).if-fault-ne0.false (is-stamp u) (above w).if-timestamp-cutoff.false at-held-count.held_count-count.ensures at-rank.rank-first.ensures _ (found_at _ w.waiting-found.ensures at-found.found.given.1) c.if-k-first.true
+    unsettled-before _ _ _ _ _ _ (formed u).if-fault-ne0.false (is-stamp u) (above w).if-timestamp-cutoff.false at-held-count.held_count-count.ensures at-rank.rank-first.ensures _ (found_at _ w.waiting-found.ensures c.in-At.is) c.if-k-first.true
 
 returns-5 : tie.Need-returns-else-k-first
 returns-5 c =
-    let at-found : tie.In-At-2 = search in
     let at-rank : tie.After-rank-first = search in
     let at-held-count : tie.After-held_count-count = search in
     let w : tie.After-waiting-found = search in
     let u = stamped (above w) in
-    settled_before _ _ _ _ _ _ (formed u).if-fault-ne0.false (is-stamp u) (above w).if-timestamp-cutoff.false at-held-count.held_count-count.ensures at-rank.rank-first.ensures _ (found_at _ w.waiting-found.ensures at-found.found.given.1) c.if-k-first.false
+    settled_before _ _ _ _ _ _ (formed u).if-fault-ne0.false (is-stamp u) (above w).if-timestamp-cutoff.false at-held-count.held_count-count.ensures at-rank.rank-first.ensures _ (found_at _ w.waiting-found.ensures c.in-At.is) c.if-k-first.false
 
 returns-6 : tie.Need-returns-in_default
 returns-6 c =
@@ -71,7 +68,7 @@ returns-6 c =
     let at-held-count : tie.After-held_count-count = search in
     let w : tie.After-waiting-found = search in
     let u = stamped (above w) in
-    all_settled _ _ _ _ _ _ (formed u).if-fault-ne0.false (is-stamp u) (above w).if-timestamp-cutoff.false at-held-count.held_count-count.ensures at-rank.rank-first.ensures (found_nothing _ w.waiting-found.ensures c.enum_told.given.1)
+    all_settled _ _ _ _ _ _ (formed u).if-fault-ne0.false (is-stamp u) (above w).if-timestamp-cutoff.false at-held-count.held_count-count.ensures at-rank.rank-first.ensures (found_nothing _ w.waiting-found.ensures c.in_default.is)
 
 pub refusal_of_spec : {M : Type 1} → statement M
 refusal_of_spec =

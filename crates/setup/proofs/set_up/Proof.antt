@@ -2,7 +2,6 @@
 use native.Mathlib.Omega.{arith}
 use mathlib.Core.Path.{◌≡◌, refl, sym, ◌∙◌}
 use mathlib.Core.Bool.{true}
-use borrow.Author.Tests.{not-true, not-false}
 use Rattle.model.specs.Tables.{Tables, tables}
 use Rattle.model.specs.Form.{lengths_fit}
 use Rattle.model.proofs.Tests.{lengths-of}
@@ -14,16 +13,16 @@ use Rattle.setup.proofs.set_up.Tie as tie
 abbrev lent : tie.Start → Tables
 lent s =
     let a = s.args in
-    tables a.held.now a.timestamps.now a.order.now a.status.now a.withdrawn.now a.lengths.now a.programs.now a.reads.now a.writes.now a.sources.now a.seen.now a.targets.now a.written.now a.view.now a.versions.now a.cutoff.now a.auto.now
+    tables a.held.now a.timestamps.now a.order.now a.status.now a.withdrawn.now a.lengths.now a.programs.now a.reads.now a.writes.now a.sources.now a.seen.now a.targets.now a.written.now a.view.now a.versions.now a.cutoff.now a.kept.now
 
 abbrev entry : tie.After-lengths_fit → tie.Start
 entry c = search
 
 returns : tie.Need-returns-then-not-lengths_fit
-returns c = set-up-refused _ (lent (entry c.before)) (sym c.before.lengths_fit.ensures ∙ not-true _ c.if-not-lengths_fit.true)
+returns c = set-up-refused _ (lent (entry c.before)) (sym c.before.lengths_fit.ensures ∙ c.if-not-lengths_fit.true)
 
 right : (c : tie.Else-not-lengths_fit) → lengths_fit (entry c.before).args.n (lent (entry c.before)) ≡ true
-right c = sym c.before.lengths_fit.ensures ∙ not-false _ c.if-not-lengths_fit.false
+right c = sym c.before.lengths_fit.ensures ∙ c.if-not-lengths_fit.false
 
 -- ---- the places of the code, from each the one before
 
@@ -49,7 +48,7 @@ fill-start-requires c κs =
 fill-start-requires-2 : tie.Need-fill_start-requires-2
 fill-start-requires-2 c κs =
     let v : tie.After-fill_start = search in
-    (lengths-of _ _ (right (tested (changes (lists v))))).auto
+    (lengths-of _ _ (right (tested (changes (lists v))))).kept
 
 returns-2 : tie.Need-returns
 returns-2 c =
