@@ -5,6 +5,7 @@ use native.Mathlib.Omega.{arith}
 use borrow.Author.Rules.{rules, sfits_of}
 use lib.ListN.{length, get_or}
 use mir.Facts.{to_z-of_z}
+use mir.Syntax.{w32}
 use Rattle.machine.specs.Settings.{setting_count, entries, carry}
 use Rattle.machine.proofs.Entries.{carry-stored}
 use Rattle.carrying.proofs.carry_list.Statement.{statement}
@@ -31,7 +32,7 @@ loop-again : tie.Need-loop-i-preserved invariant-loop decreases-loop
 loop-again c =
     let at-loop : tie.At-loop-i invariant-loop decreases-loop = search in
     let l = at-loop.loop-i in
-    (omega arith, rw (to_z-of_z (sfits_of c.into.given), l.invariant.1) (carry-stored l.i _ _ _ (omega arith) (omega arith)))
+    (omega arith, rw (to_z-of_z {w = w32} (sfits_of c.into-1.given), l.invariant.1) (carry-stored l.i _ _ _ (omega arith) (omega arith)))
 
 returns : tie.Need-returns invariant-loop decreases-loop
 returns c =

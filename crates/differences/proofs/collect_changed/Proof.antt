@@ -1,5 +1,4 @@
 -- `differences::collect_changed` meets its contract: what the rest of the settings add is what is left to collect. Assumes nothing.
-use mathlib.Core.Logic.{⊎_elim}
 use Prim.Native.Nat.{◌-◌, ◌<◌}
 use native.Mathlib.Omega.{arith}
 use borrow.Author.Rules.{rules, sfits_of}
@@ -8,6 +7,7 @@ use Rattle.machine.specs.Settings.{setting_count}
 use Rattle.differences.proofs.Changed.{Collecting, collecting-none, collecting-one, collecting-same, collecting-all}
 use Rattle.differences.proofs.collect_changed.Statement.{statement}
 use Rattle.differences.proofs.collect_changed.Tie as tie
+use Rattle.differences.proofs.collect_changed.Lts.{then-before-x, else-before-x}
 
 abbrev invariant-loop : tie.invariant-loop-i
 invariant-loop settings before after changed₀ count total₀ i₀ changed total i =
@@ -28,10 +28,10 @@ loop-again c =
     let old : tie.After-t18-1 invariant-loop decreases-loop = search in
     let v = c.before in
     let l : tie.At-loop-i invariant-loop decreases-loop = search in
-    ⊎_elim
-    (λ w. rw w.1 (collecting-one l.loop-i.invariant (omega arith) (omega arith) w.0.true))
-    (λ w. rw w.1 (collecting-same l.loop-i.invariant (omega arith) (omega arith) (sfits_of old.t18-1.given) (sfits_of v.t22-1.given) w.0.false))
-    c.if-before-x.branch
+    elim c.if-before-x.branch [
+      then-before-x w ↦ rw w.total-is (collecting-one l.loop-i.invariant (omega arith) (omega arith) w.if-before-x.true)
+      | else-before-x w ↦ rw w.total-is (collecting-same l.loop-i.invariant (omega arith) (omega arith) (sfits_of old.t18-1.given) (sfits_of v.t22-1.given) w.if-before-x.false)
+    ]
 
 pub collect_changed_spec : {M : Type 1} → statement M
 collect_changed_spec =

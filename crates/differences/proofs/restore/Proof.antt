@@ -5,6 +5,7 @@ use native.Mathlib.Omega.{arith}
 use borrow.Author.Rules.{rules, sfits_of}
 use lib.ListN.{length, get_or, drop}
 use mir.Facts.{to_z-of_z}
+use mir.Syntax.{w32}
 use Rattle.machine.specs.Settings.{setting_count}
 use Rattle.differences.specs.Differences.{restored}
 use Rattle.differences.proofs.Changed.{restored-ends, restored-next}
@@ -29,7 +30,7 @@ loop-again : tie.Need-loop-j-preserved invariant-loop decreases-loop
 loop-again c =
     let l : tie.At-loop-j invariant-loop decreases-loop = search in
     let a = (entry l).args in
-    (omega arith, restored-next a.settings.now a.after.now l.loop-j.before l.loop-j.j (omega arith) (to_z-of_z (sfits_of c.before-1.given)) ∙ l.loop-j.invariant.1)
+    (omega arith, restored-next a.settings.now a.after.now l.loop-j.before l.loop-j.j (omega arith) (to_z-of_z {w = w32} (sfits_of c.before-1.given)) ∙ l.loop-j.invariant.1)
 
 returns : tie.Need-returns invariant-loop decreases-loop
 returns c =

@@ -22,23 +22,23 @@ loop-holds c = (omega arith, unmarked _ (the (tie.Start invariant-loop decreases
 returns : tie.Need-returns-then-not-mark invariant-loop decreases-loop
 returns c =
     let l = (the (tie.At-loop-i invariant-loop decreases-loop) (search)).loop-i in
-    failed (the (tie.Start invariant-loop decreases-loop) (search)).args.settings.now l.i (l.i - 2 + 1) (omega arith) l.invariant.0 l.invariant.1 c.before.mark.ensures (not-true _ c.if-not-mark.true)
+    failed (the (tie.Start invariant-loop decreases-loop) (search)).args.settings.now l.i (l.i - 2 + 1) (omega arith) l.invariant.0 l.invariant.1 c.before.mark.ensures c.if-not-mark.true
 
 -- the settings that are marked after the first of a turn
-first : (c : tie.Else-not-mark invariant-loop decreases-loop) → let a = c.before.before.before.before.before.before.before.args in Marked a.row (drop (c.before.before.before.before.before.loop-i.i - 2 + 1) a.settings.now) c.before.mark.new.1.0
+first : (c : tie.Else-not-mark invariant-loop decreases-loop) → let a = c.before.before.before.before.before.before.before.args in Marked a.row (drop (c.before.before.before.before.before.loop-i.i - 2 + 1) a.settings.now) c.before.mark.new.marks
 first c =
     let l = (the (tie.At-loop-i invariant-loop decreases-loop) (search)).loop-i in
-    passed (the (tie.Start invariant-loop decreases-loop) (search)).args.settings.now l.i (l.i - 2 + 1) (omega arith) l.invariant.0 l.invariant.1 c.before.mark.ensures (not-false _ c.if-not-mark.false)
+    passed (the (tie.Start invariant-loop decreases-loop) (search)).args.settings.now l.i (l.i - 2 + 1) (omega arith) l.invariant.0 l.invariant.1 c.before.mark.ensures c.if-not-mark.false
 
 returns-2 : tie.Need-returns-then-not-mark-2 invariant-loop decreases-loop
 returns-2 c =
     let i = (the (tie.At-loop-i invariant-loop decreases-loop) (search)).loop-i.i in
-    failed (the (tie.Start invariant-loop decreases-loop) (search)).args.settings.now (i - 2 + 1) (i - 2) (omega arith) (omega arith) (first (search)) c.before.mark-in-loop-i.ensures (not-true _ c.if-not-mark-2.true)
+    failed (the (tie.Start invariant-loop decreases-loop) (search)).args.settings.now (i - 2 + 1) (i - 2) (omega arith) (omega arith) (first (search)) c.before.mark-in-loop-i.ensures c.if-not-mark-2.true
 
 loop-again : tie.Need-loop-i-preserved invariant-loop decreases-loop
 loop-again c =
     let i = (the (tie.At-loop-i invariant-loop decreases-loop) (search)).loop-i.i in
-    (omega arith, passed (the (tie.Start invariant-loop decreases-loop) (search)).args.settings.now (i - 2 + 1) (i - 2) (omega arith) (omega arith) (first (search)) c.before.mark-in-loop-i.ensures (not-false _ c.if-not-mark-2.false))
+    (omega arith, passed (the (tie.Start invariant-loop decreases-loop) (search)).args.settings.now (i - 2 + 1) (i - 2) (omega arith) (omega arith) (first (search)) c.before.mark-in-loop-i.ensures c.if-not-mark-2.false)
 
 returns-3 : tie.Need-returns-then-i-eq1 invariant-loop decreases-loop
 returns-3 c =

@@ -27,12 +27,12 @@ unfolding all_below
 loop-holds c = (omega arith, refl, no-marks)
 
 returns : tie.Need-returns-then-not-list_fits invariant-loop decreases-loop
-returns c = let t : tie.In-loop-i invariant-loop decreases-loop = search in sym (not_all_below _ _ _ t.loop-i-test.true (sym c.before.list_fits.ensures.0 ∙ not-true _ c.if-not-list_fits.true))
+returns c = let t : tie.In-loop-i invariant-loop decreases-loop = search in sym (not_all_below _ _ _ t.loop-i-test.true (sym c.before.list_fits.ensures.0 ∙ c.if-not-list_fits.true))
 
 loop-again : tie.Need-loop-i-preserved invariant-loop decreases-loop
 loop-again c =
     let f = c.before.list_fits.ensures in
-    (omega arith, all-below-next _ _ (the (tie.At-loop-i invariant-loop decreases-loop) (search)).loop-i.invariant.1 (sym f.0 ∙ not-false _ c.if-not-list_fits.false), marked-later (omega arith) f.1)
+    (omega arith, all-below-next _ _ (the (tie.At-loop-i invariant-loop decreases-loop) (search)).loop-i.invariant.1 (sym f.0 ∙ c.if-not-list_fits.false), marked-later (omega arith) f.1)
 
 returns-2 : tie.Need-returns invariant-loop decreases-loop
 returns-2 c =

@@ -21,11 +21,11 @@ returns c = let start : tie.Start = search in let a = start.args in rw (lt-leb (
 
 returns-2 : tie.Need-returns
 returns-2 c =
-    let at-well-formed : tie.After-well-formed = search in
+    let at-well-formed : tie.After-well_formed-2 = search in
     let start : tie.Start = search in
     let a = start.args in
     let n = get_or a.lengths.now a.i 0 in
-    let formed = at-well-formed.well-formed.ensures ∙ ap all_well_formed (used-part 256 a.i (8 * n) a.programs.now) in
+    let formed = at-well-formed.well_formed-2.ensures ∙ ap all_well_formed (used-part 256 a.i (8 * n) a.programs.now) in
     let rest = c.all_zero_u8.ensures ∙ ap all_zero (rest_part 256 a.i (8 * n) a.programs.now) ∙ sym (and-true _) in
     rw (le-leb n 32 (omega arith)) (λ j. formed j && rest j)
 

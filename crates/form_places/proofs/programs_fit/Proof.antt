@@ -24,10 +24,10 @@ unfolding all_below
 loop-holds c = (omega arith, refl)
 
 returns : tie.Need-returns-then-not-program_fits invariant-loop decreases-loop
-returns c = let t : tie.In-loop-i invariant-loop decreases-loop = search in sym (not_all_below _ _ _ t.loop-i-test.true (sym c.before.program_fits.ensures ∙ not-true _ c.if-not-program_fits.true))
+returns c = let t : tie.In-loop-i invariant-loop decreases-loop = search in sym (not_all_below _ _ _ t.loop-i-test.true (sym c.before.program_fits.ensures ∙ c.if-not-program_fits.true))
 
 loop-again : tie.Need-loop-i-preserved invariant-loop decreases-loop
-loop-again c = (omega arith, all-below-next _ _ (the (tie.At-loop-i invariant-loop decreases-loop) (search)).loop-i.invariant.1 (sym c.before.program_fits.ensures ∙ not-false _ c.if-not-program_fits.false))
+loop-again c = (omega arith, all-below-next _ _ (the (tie.At-loop-i invariant-loop decreases-loop) (search)).loop-i.invariant.1 (sym c.before.program_fits.ensures ∙ c.if-not-program_fits.false))
 
 returns-2 : tie.Need-returns invariant-loop decreases-loop
 returns-2 c =

@@ -21,28 +21,28 @@ abbrev entry : tie.Else-not-places-position → tie.Start
 entry c = search
 
 passed-few : (c : tie.Else-not-places-position) → few (entry c) ≡ true
-passed-few c = not-false (few (entry c)) c.if-not-places-position.false
+passed-few c = c.if-not-places-position.false
 
 passed-sized : (c : tie.Else-not-targets-slots) → sized (entry c.before) ≡ true
-passed-sized c = not-false (sized (entry c.before)) c.if-not-targets-slots.false
+passed-sized c = c.if-not-targets-slots.false
 
 returns : tie.Need-returns-then-not-places-position
-returns c = refusals.refused-many _ _ _ _ _ (not-true (few (search)) c.if-not-places-position.true)
+returns c = refusals.refused-many _ _ _ _ _ c.if-not-places-position.true
 
 returns-2 : tie.Need-returns-then-not-targets-slots
-returns-2 c = refusals.refused-sizes _ _ _ _ _ (passed-few c.before) (not-true (sized (search)) c.if-not-targets-slots.true)
+returns-2 c = refusals.refused-sizes _ _ _ _ _ (passed-few c.before) c.if-not-targets-slots.true
 
 returns-3 : tie.Need-returns-then-not-each_below
 returns-3 c =
     let at-each-below : tie.After-each_below = search in
     let e : tie.Else-not-targets-slots = search in
-    refusals.refused-contents _ _ _ _ _ (passed-few e.before) (passed-sized e) at-each-below.each_below.ensures c.before.each_below-2.ensures (not-true (at-each-below.each_below.result && c.before.each_below-2.result) c.if-not-each_below.true)
+    refusals.refused-contents _ _ _ _ _ (passed-few e.before) (passed-sized e) at-each-below.each_below.ensures c.before.each_below-2.ensures c.if-not-each_below.true
 
 returns-4 : tie.Need-returns
 returns-4 c =
     let at-each-below : tie.After-each_below = search in
     let e : tie.Else-not-targets-slots = search in
-    refusals.passed _ _ _ _ _ (passed-few e.before) (passed-sized e) at-each-below.each_below.ensures c.before.each_below-2.ensures (not-false (at-each-below.each_below.result && c.before.each_below-2.result) c.if-not-each_below.false)
+    refusals.passed _ _ _ _ _ (passed-few e.before) (passed-sized e) at-each-below.each_below.ensures c.before.each_below-2.ensures c.if-not-each_below.false
 
 part-each-below-end : tie.Need-slice_bounds-each_below-end
 part-each-below-end c =

@@ -5,6 +5,7 @@ use borrow.Author.Rules.{rules, sfits_of}
 use lib.IntN.{pos}
 use lib.ListN.{length}
 use mir.Facts.{to_z-of_z}
+use mir.Syntax.{w64}
 use Rattle.general.proofs.Filled.{Filled, fill_none, fill-next, fill-last}
 use Rattle.search_exports.proofs.Refusals.{searchable}
 use Rattle.search_exports.proofs.Reports.{found_at, not-one-each, refused, searched}
@@ -36,7 +37,7 @@ loop-again c =
     let at-else1 : tie.Else-settings-answers invariant-loop decreases-loop = search in
     let l = at-loop.loop-i in
     let one_each = at-else1.if-settings-answers.false in
-    rw (to_z-of_z (sfits_of c.number_of_lem.type_inv), c.number_of_lem.ensures, at-previous-write.previous_write-found.ensures) (fill-next (omega (arith, l.invariant.same, one_each)) l.invariant)
+    rw (to_z-of_z {w = w64} (sfits_of c.number_of.type_inv), c.number_of.ensures, at-previous-write.previous_write-found.ensures) (fill-next (omega (arith, l.invariant.same, one_each)) l.invariant)
 
 returns-3 : tie.Need-returns invariant-loop decreases-loop
 returns-3 c =

@@ -27,7 +27,7 @@ value-of-requires c κs =
 loop-again : tie.Need-loop-i-preserved invariant-loop decreases-loop
 loop-again c =
     let l : tie.At-loop-i invariant-loop decreases-loop = search in
-    known-to-more (omega arith) c.value_of_lem.ensures.1 c.value_of_lem.ensures.2 l.loop-i.invariant
+    known-to-more (omega arith) c.value_of.ensures.1 c.value_of.ensures.2 l.loop-i.invariant
 
 pub know_list_spec : {M : Type 1} → statement M
 know_list_spec =

@@ -25,7 +25,7 @@ entry c = search
 
 -- the values as of the position
 abbrev upto : tie.Start invariant-loop decreases-loop → Environment
-upto c = let a = c.args in values_below a.order.now a.writes.now a.targets.now a.written.now a.auto.now a.k
+upto c = let a = c.args in values_below a.order.now a.writes.now a.targets.now a.written.now a.kept.now a.k
 
 loop-holds : tie.Need-loop-i-init invariant-loop decreases-loop
 loop-holds c =
@@ -46,14 +46,14 @@ returns c =
     let v : tie.After-value_of-v invariant-loop decreases-loop = search in
     let l = head v in
     let a = (entry l).args in
-    (rest-fails a.sources.now a.seen.now (upto (entry l)) l.loop-i.i (omega arith) (entry l).requires.0 v.value_of_lem.ensures.0 c.if-v-seen.true ∙ l.loop-i.invariant.1, looked-more l.loop-i.invariant.2 v.value_of_lem.ensures.2)
+    (rest-fails a.sources.now a.seen.now (upto (entry l)) l.loop-i.i (omega arith) (entry l).requires.0 v.value_of-v.ensures.0 c.if-v-seen.true ∙ l.loop-i.invariant.1, looked-more l.loop-i.invariant.2 v.value_of-v.ensures.2)
 
 loop-again : tie.Need-loop-i-preserved invariant-loop decreases-loop
 loop-again c =
     let v : tie.After-value_of-v invariant-loop decreases-loop = search in
     let l = head v in
     let a = (entry l).args in
-    (omega arith, rest-holds a.sources.now a.seen.now (upto (entry l)) l.loop-i.i (omega arith) (entry l).requires.0 v.value_of_lem.ensures.0 (sfits_of v.value_of_lem.ok) (sfits_of c.before.t22-1.given) c.if-v-seen.false ∙ l.loop-i.invariant.1, looked-more l.loop-i.invariant.2 v.value_of_lem.ensures.2)
+    (omega arith, rest-holds a.sources.now a.seen.now (upto (entry l)) l.loop-i.i (omega arith) (entry l).requires.0 v.value_of-v.ensures.0 (sfits_of v.value_of-v.type_inv) (sfits_of c.before.t22-1.given) c.if-v-seen.false ∙ l.loop-i.invariant.1, looked-more l.loop-i.invariant.2 v.value_of-v.ensures.2)
 
 returns-2 : tie.Need-returns invariant-loop decreases-loop
 returns-2 c =

@@ -3,6 +3,7 @@ use mathlib.Core.Path.{◌∙◌}
 use native.Mathlib.Omega.{arith}
 use borrow.Author.Rules.{rules, sfits_of}
 use mir.Facts.{to_z-of_z}
+use mir.Syntax.{w32}
 use Rattle.values.proofs.Known.{looked-none, noted, looked-one}
 use Rattle.values.proofs.value_of.Statement.{statement}
 use Rattle.values.proofs.value_of.Tie as tie
@@ -12,13 +13,13 @@ returns c =
     let taken : tie.Then-known-x-ne0 = search in
     let s : tie.Start = search in
     let h = s.requires.1.right in
-    (to_z-of_z (sfits_of c.result-1.given) ∙ h.after_is s.args.s s.requires.0 taken.if-known-x-ne0.true, taken.if-known-x-ne0.true, looked-none h)
+    (to_z-of_z {w = w32} (sfits_of c.result-1.given) ∙ h.after_is s.args.s s.requires.0 taken.if-known-x-ne0.true, taken.if-known-x-ne0.true, looked-none h)
 
 returns-2 : tie.Need-returns
 returns-2 c =
     let s : tie.Start = search in
     let h = s.requires.1.right in
-    let e = to_z-of_z (sfits_of c.value_below-v.type_inv) ∙ c.value_below-v.ensures in
+    let e = to_z-of_z {w = w32} (sfits_of c.value_below-v.type_inv) ∙ c.value_below-v.ensures in
     (e, noted h s.args.s s.requires.0, looked-one h s.args.s s.requires.0 e)
 
 value-below-requires : tie.Need-value_below-v-requires

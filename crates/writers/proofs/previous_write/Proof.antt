@@ -2,9 +2,10 @@
 use mathlib.Core.Path.{◌≡◌, refl, ap, ◌∙◌}
 use Prim.Native.Nat.{ℕ, ◌≤◌, ◌<◌, ◌-◌}
 use native.Mathlib.Omega.{arith}
-use borrow.Author.Rules.{rules, sfits_of}
+use borrow.Author.Rules.{rules}
 use lib.ListN.{length, get_or}
-use mir.Facts.{to_z-of_z}
+use mir.Val.{to_z, of_z}
+use mir.Syntax.{w32}
 use Rattle.writers.specs.Writers.{written_of, previous_write}
 use Rattle.writers.proofs.Steps.{previous-here, previous-lower}
 use Rattle.writers.proofs.previous_write.Statement.{statement}
@@ -39,19 +40,15 @@ written-at-requires c κs =
 
 returns : tie.Need-returns-in-Value invariant-loop decreases-loop
 returns c =
-    let at-found : tie.In-Value-2 invariant-loop decreases-loop = search in
-    let at-written-at : tie.After-written_at-found invariant-loop decreases-loop = search in
-    let at-loop : tie.At-loop-below invariant-loop decreases-loop = search in
-    let l = at-loop.loop-below in
-    let here = previous-here _ _ _ _ _ l.below (omega arith) at-written-at.written_at-found.ensures at-found.found.given.1 in
-    rw (to_z-of_z (sfits_of c.known-told.given.0.1)) (ap written_of (here ∙ l.invariant.1))
+    let l = c.loop-below in
+    let here = previous-here _ _ _ _ _ l.below (omega arith) c.written_at-found.ensures c.in-Value.is in
+    let z : to_z w32 (of_z w32 c.in-Value.v) ≡ c.in-Value.v = search rules in
+    rw z (ap written_of (here ∙ l.invariant.1))
 
 loop-again : tie.Need-loop-below-preserved invariant-loop decreases-loop
 loop-again c =
-    let at-loop : tie.At-loop-below invariant-loop decreases-loop = search in
-    let at-written-at : tie.After-written_at-found invariant-loop decreases-loop = search in
-    let l = at-loop.loop-below in
-    (omega arith, previous-lower _ _ _ _ _ l.below (omega arith) at-written-at.written_at-found.ensures c.enum_told.given.1 ∙ l.invariant.1)
+    let l = c.loop-below in
+    (omega arith, previous-lower _ _ _ _ _ l.below (omega arith) c.written_at-found.ensures c.in_default.is ∙ l.invariant.1)
 
 returns-2 : tie.Need-returns invariant-loop decreases-loop
 unfolding previous_write

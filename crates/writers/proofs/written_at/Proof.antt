@@ -25,7 +25,7 @@ returns c =
     let start : tie.Start invariant-loop decreases-loop = search in
     let a = start.args in
     let n = not_named a.s a.place a.count a.targets.now (drop (32 * a.place) a.written.now) c.before.names_setting.ensures in
-    sym (ap written_of (n (not-true c.before.names_setting.result c.if-not-names_setting.true)))
+    sym (ap written_of (n c.if-not-names_setting.true))
 
 returns-2 : tie.Need-returns-then-targets-start invariant-loop decreases-loop
 returns-2 c =

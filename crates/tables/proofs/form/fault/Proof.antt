@@ -15,16 +15,16 @@ use Rattle.tables.proofs.form.fault.Tie as tie
 abbrev lent : tie.Start → Tables
 lent s =
     let a = s.args in
-    tables a.held.now a.timestamps.now a.order.now a.status.now a.withdrawn.now a.lengths.now a.programs.now a.reads.now a.writes.now a.sources.now a.seen.now a.targets.now a.written.now a.view.now a.versions.now a.cutoff.now a.auto.now
+    tables a.held.now a.timestamps.now a.order.now a.status.now a.withdrawn.now a.lengths.now a.programs.now a.reads.now a.writes.now a.sources.now a.seen.now a.targets.now a.written.now a.view.now a.versions.now a.cutoff.now a.kept.now
 
 abbrev entry : tie.After-lengths_fit → tie.Start
 entry c = search
 
 returns : tie.Need-returns-then-not-lengths_fit
-returns c = lengths-wrong _ (lent (entry c.before)) (sym c.before.lengths_fit.ensures ∙ not-true _ c.if-not-lengths_fit.true)
+returns c = lengths-wrong _ (lent (entry c.before)) (sym c.before.lengths_fit.ensures ∙ c.if-not-lengths_fit.true)
 
 right : (c : tie.Else-not-lengths_fit) → lengths_fit (entry c.before).args.n (lent (entry c.before)) ≡ true
-right c = sym c.before.lengths_fit.ensures ∙ not-false _ c.if-not-lengths_fit.false
+right c = sym c.before.lengths_fit.ensures ∙ c.if-not-lengths_fit.false
 
 -- the place after the lengths are tested, from that after the count is
 abbrev sized : tie.Else-n-count → tie.Else-not-lengths_fit

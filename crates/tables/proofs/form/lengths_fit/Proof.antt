@@ -9,14 +9,14 @@ use Rattle.tables.proofs.form.lengths_fit.Statement.{statement}
 use Rattle.tables.proofs.form.lengths_fit.Tie as tie
 
 returns : tie.Need-returns-then-not-n
-returns c = out_of_range _ _ (not-true _ c.if-not-n.true)
+returns c = out_of_range _ _ c.if-not-n.true
 
 -- the capacity is in range
 capacity : (c : tie.Else-not-n) → c.before.args.n ≤ 4096
-capacity c = leb-true _ _ (both (leb 1 c.before.args.n) (not-false _ c.if-not-n.false)).1
+capacity c = leb-true _ _ (both (leb 1 c.before.args.n) c.if-not-n.false).1
 
 returns-2 : tie.Need-returns
-returns-2 c = lengths-tested _ _ (not-false _ c.if-not-n.false)
+returns-2 c = lengths-tested _ _ c.if-not-n.false
 
 pub lengths_fit_spec : {M : Type 1} → statement M
 lengths_fit_spec =
