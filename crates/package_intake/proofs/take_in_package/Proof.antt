@@ -16,7 +16,7 @@ use Rattle.package_intake.proofs.take_in_package.Tie as tie
 abbrev lent : tie.Start → Tables
 lent s =
     let a = s.args in
-    tables a.held.now a.timestamps.now a.order.now a.status.now a.withdrawn.now a.lengths.now a.programs.now a.reads.now a.writes.now a.sources.now a.seen.now a.targets.now a.written.now a.view.now a.versions.now a.cutoff.now a.auto.now
+    tables a.held.now a.timestamps.now a.order.now a.status.now a.withdrawn.now a.lengths.now a.programs.now a.reads.now a.writes.now a.sources.now a.seen.now a.targets.now a.written.now a.view.now a.versions.now a.cutoff.now a.kept.now
 
 -- ---- the places of the code, from each the one before
 
@@ -67,7 +67,7 @@ returns-3 : tie.Need-returns
 returns-3 c =
     let t : tie.After-take_entries = search in
     let e = accepted t in
-    t.take_entries.ensures.true (lent (start (faulted e))) (passed e).0
+    t.take_entries.ensures.taken (lent (start (faulted e))) (passed e).0
 
 pub take_in_package_spec : {M : Type 1} → statement M
 take_in_package_spec =

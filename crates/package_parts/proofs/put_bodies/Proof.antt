@@ -39,7 +39,7 @@ ends : (m : tie.In-loop-k invariant-loop decreases-loop) → let a = (entry m.be
 ends m =
     let s = entry m.before in
     let l = m.before.loop-k in
-    l.invariant.put-end.ends ∙ ap (λ (n : ℕ). s.args.at + n) (bodies-length s.args.order.now s.args.lengths.now s.args.programs.now s.requires.2 s.requires.1 s.args.count s.requires.0 l.k l.invariant.within)
+    l.invariant.put.ends ∙ ap (λ (n : ℕ). s.args.at + n) (bodies-length s.args.order.now s.args.lengths.now s.args.programs.now s.requires.2 s.requires.1 s.args.count s.requires.0 l.k l.invariant.within)
 
 -- it fits behind them
 room : (m : tie.In-loop-k invariant-loop decreases-loop) → let a = (entry m.before).args in let l = m.before.loop-k in l.end + length (body_in a.order.now a.lengths.now a.programs.now l.k) ≤ length l.bytes

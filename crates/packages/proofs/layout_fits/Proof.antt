@@ -3,7 +3,7 @@ use mathlib.Core.Path.{◌≡◌}
 use mathlib.Core.Bool.{true}
 use native.Mathlib.Omega.{arith}
 use borrow.Author.Rules.{rules}
-use borrow.Author.Tests.{not-true, not-false, leb-true}
+use borrow.Author.Tests.{leb-true}
 use lib.Dec.{leb}
 use lib.ListN.{length}
 use Rattle.general.proofs.Cases.{both}
@@ -13,10 +13,10 @@ use Rattle.packages.proofs.layout_fits.Tie as tie
 
 -- the length is right
 right : (c : tie.Else-not-length) → right_length c.before.before.args.bytes.now ≡ true
-right c = not-false _ c.if-not-length.false
+right c = c.if-not-length.false
 
 returns : tie.Need-returns-then-not-length
-returns c = let start : tie.Start = search in wrong-length start.args.bytes.now (not-true _ c.if-not-length.true)
+returns c = let start : tie.Start = search in wrong-length start.args.bytes.now c.if-not-length.true
 
 entry-count-requires : tie.Need-entry_count-count-requires
 entry-count-requires c κs = let start : tie.Start = search in leb-true 2 _ (both (leb 2 (length start.args.bytes.now)) (right c)).0

@@ -1,6 +1,6 @@
 -- `packages::refusal_with` meets its contract. Assumes nothing.
 use mathlib.Core.Path.{sym, ◌∙◌}
-use borrow.Author.Tests.{eq-eqb, ne_eqb, not-true, not-false}
+use borrow.Author.Tests.{eq-eqb, ne_eqb}
 use Rattle.packages.proofs.refusal_with.Statement.{statement}
 use Rattle.packages.proofs.refusal_with.Tie as tie
 
@@ -10,5 +10,5 @@ refusal_with_spec =
     (tie.spec
     (λ c. rw (ne_eqb _ 0 c.if-fault-ne0.true))
     (λ c κs. tt)
-    (λ c. let at-else1 : tie.Else-fault-ne0 = search in rw (eq-eqb _ 0 at-else1.if-fault-ne0.false, sym c.before.layout_fits.ensures ∙ not-true _ c.if-not-layout_fits.true))
-    (λ c. let at-else1 : tie.Else-fault-ne0 = search in rw (eq-eqb _ 0 at-else1.if-fault-ne0.false, sym c.before.layout_fits.ensures ∙ not-false _ c.if-not-layout_fits.false)))
+    (λ c. let at-else1 : tie.Else-fault-ne0 = search in rw (eq-eqb _ 0 at-else1.if-fault-ne0.false, sym c.before.layout_fits.ensures ∙ c.if-not-layout_fits.true))
+    (λ c. let at-else1 : tie.Else-fault-ne0 = search in rw (eq-eqb _ 0 at-else1.if-fault-ne0.false, sym c.before.layout_fits.ensures ∙ c.if-not-layout_fits.false)))

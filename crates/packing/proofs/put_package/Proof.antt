@@ -3,7 +3,6 @@ use mathlib.Core.Path.{◌≡◌, sym, ap, ◌∙◌}
 use Prim.Native.Nat.{ℕ, ◌+◌, ◌*◌, ◌≤◌}
 use native.Mathlib.Omega.{arith}
 use borrow.Author.Rules.{rules}
-use borrow.Author.Tests.{not-true, not-false}
 use lib.ListN.{length}
 use Rattle.text.specs.Pieces.{Put}
 use Rattle.packing.specs.Packing.{entries_in, package_in}
@@ -44,7 +43,7 @@ sized c = omega (arith, counted (search), c.total-2.ensures, package-length (ent
 
 -- within its limits and the slice
 fits : (c : tie.Else-not-entries-size) → let a = (entry c.before).args in (a.count + c.before.before.total.result ≤ 512) × (2 + 12 * (a.count + c.before.before.total.result) + 8 * c.before.total-2.result ≤ 65535) × (2 + 12 * (a.count + c.before.before.total.result) + 8 * c.before.total-2.result ≤ length a.bytes.now)
-fits c = limits (entry c.before).requires (entry c.before).args.bytes.now (counted (search)) (sized c.before) (not-false _ c.if-not-entries-size.false)
+fits c = limits (entry c.before).requires (entry c.before).args.bytes.now (counted (search)) (sized c.before) (c.if-not-entries-size.false)
 
 total-requires : tie.Need-total-requires
 total-requires c κs =
@@ -65,7 +64,7 @@ small-2 c = let h = (entry c).requires in omega (arith, c.total-2.ensures, few-i
 returns : tie.Need-returns-then-not-entries-size
 returns c =
     let t = c.before in
-    packed-refused (entry t).requires _ (counted (search)) (sized t) (not-true _ c.if-not-entries-size.true)
+    packed-refused (entry t).requires _ (counted (search)) (sized t) (c.if-not-entries-size.true)
 
 put-changes-requires : tie.Need-put_changes-end-requires
 put-changes-requires c κs =
@@ -94,7 +93,7 @@ put-bodies-requires c κs =
     (rw h.sizes h.placed, h.blocks ∙ ap (256 *◌) (sym h.sizes), h.short, omega (arith, n.put_little_endian-end.ensures.ends, n.put_little_endian-end.auto, p.put_changes-end.ensures.ends, p.put_changes-end.auto, w.put_withdrawals-end.ensures.ends, w.put_withdrawals-end.auto, changes-length s.args.order.now s.args.timestamps.now s.args.lengths.now s.args.versions.now s.args.count, withdrawals-length s.args.order.now s.args.timestamps.now s.args.withdrawn.now h.flag s.args.count, (the tie.After-total (search)).total.ensures, e.before.total-2.ensures, (fits e).2))
 
 -- the whole package
-put : (c : tie.After-put_bodies-end) → let w = cleared c in let p = changed w in let n = numbered p in let a = (entry (tested n).before).args in Put 0 (package_in a.order.now a.timestamps.now a.withdrawn.now a.lengths.now a.programs.now a.versions.now a.count) a.bytes.now c.put_bodies-end.new.1.1.1.1.0 c.put_bodies-end.result
+put : (c : tie.After-put_bodies-end) → let w = cleared c in let p = changed w in let n = numbered p in let a = (entry (tested n).before).args in Put 0 (package_in a.order.now a.timestamps.now a.withdrawn.now a.lengths.now a.programs.now a.versions.now a.count) a.bytes.now c.put_bodies-end.new.bytes c.put_bodies-end.result
 put c =
     let w = cleared c in
     let p = changed w in
@@ -107,7 +106,7 @@ returns-2 c =
     let b : tie.After-put_bodies-end = search in
     let e = tested (numbered (changed (cleared b))) in
     let t = e.before in
-    packed-put (entry t).requires _ (counted (search)) (sized t) (not-false _ e.if-not-entries-size.false) (put b)
+    packed-put (entry t).requires _ (counted (search)) (sized t) (e.if-not-entries-size.false) (put b)
 
 pub put_package_spec : {M : Type 1} → statement M
 put_package_spec =

@@ -5,7 +5,7 @@ use mathlib.Core.Option.{Option, some}
 use Prim.Native.Nat.{ℕ, ◌<◌}
 use native.Mathlib.Omega.{arith}
 use borrow.Author.Rules.{rules}
-use borrow.Author.Tests.{not-true, not-false, lt-ltb, le-ltb}
+use borrow.Author.Tests.{lt-ltb, le-ltb}
 use lib.Dec.{ltb}
 use lib.ListN.{length, get_or, set, length-set}
 use Rattle.model.specs.History.{is_timestamp}
@@ -41,13 +41,13 @@ entry c = search
 abbrev start : tie.After-position-found → tie.Start
 start c = entry (search)
 
-abbrev searched : tie.In-At-2 → tie.After-position-found
+abbrev searched : tie.In-At → tie.After-position-found
 searched c = search
 
 abbrev counted : tie.After-position-found → tie.After-held_count-count
 counted c = search
 
-abbrev flagged : tie.Else-withdrawn-place-ne0 → tie.In-At-2
+abbrev flagged : tie.Else-withdrawn-place-ne0 → tie.In-At
 flagged c = search
 
 -- ---- what the test and the search tell
@@ -55,7 +55,7 @@ flagged c = search
 stamped : (c : tie.After-position-found) → is_timestamp (start c).args.timestamp ≡ true
 stamped c =
     let t : tie.Else-not-is_timestamp = search in
-    sym t.before.is_timestamp.ensures ∙ not-false _ t.if-not-is_timestamp.false
+    sym t.before.is_timestamp.ensures ∙ t.if-not-is_timestamp.false
 
 from : (c : tie.After-position-found) → let a = (start c).args in ltb a.timestamp (get_or a.cutoff.now 0 0) ≡ false
 from c = let at-else2 : tie.Else-timestamp-cutoff = search in le-ltb _ _ at-else2.if-timestamp-cutoff.false
@@ -65,11 +65,11 @@ told c T e =
     let a = (start c).args in
     ap (position_of a.order.now a.timestamps.now a.timestamp) (sym (counted c).held_count-count.ensures) ∙ e
 
-at : (c : tie.In-At-2) (T : Tables) → let s = start (searched c) in position_in (lent s T) s.args.timestamp ≡ some c.found.given.0.0
-at c T = told (searched c) T (found_at _ (searched c).position-found.ensures c.found.given.1)
+at : (c : tie.In-At) (T : Tables) → let s = start (searched c) in position_in (lent s T) s.args.timestamp ≡ some c.in-At.k
+at c T = told (searched c) T (found_at _ (searched c).position-found.ensures c.in-At.is)
 
 -- the slots that the code reads and writes are there
-within : (c : tie.In-At-2) → let a = (start (searched c)).args in let k = c.found.given.0.0 in (k < length a.order.now) × (get_or a.order.now k 0 < length a.status.now) × (get_or a.order.now k 0 < length a.withdrawn.now) × (get_or a.order.now k 0 < 4096)
+within : (c : tie.In-At) → let a = (start (searched c)).args in let k = c.in-At.k in (k < length a.order.now) × (get_or a.order.now k 0 < length a.status.now) × (get_or a.order.now k 0 < length a.withdrawn.now) × (get_or a.order.now k 0 < 4096)
 within c =
     let s = start (searched c) in
     let g = s.requires.formed in
@@ -89,22 +89,22 @@ position-requires c κs =
 returns : tie.Need-returns-then-not-is_timestamp
 returns c =
     record {
-      answered = λ T g. item-replied (withdrawing (entry c.before).args.timestamp) g (no-timestamp _ _ _ (sym c.before.is_timestamp.ensures ∙ not-true _ c.if-not-is_timestamp.true)) refl;
+      answered = λ T g. item-replied (withdrawing (entry c.before).args.timestamp) g (no-timestamp _ _ _ (sym c.before.is_timestamp.ensures ∙ c.if-not-is_timestamp.true)) refl;
     }
 
 returns-2 : tie.Need-returns-then-timestamp-cutoff
 returns-2 c =
     let t : tie.Else-not-is_timestamp = search in
-    record { answered = λ T g. cut-replied g _ (sym t.before.is_timestamp.ensures ∙ not-false _ t.if-not-is_timestamp.false) (lt-ltb _ _ c.if-timestamp-cutoff.true) }
+    record { answered = λ T g. cut-replied g _ (sym t.before.is_timestamp.ensures ∙ t.if-not-is_timestamp.false) (lt-ltb _ _ c.if-timestamp-cutoff.true) }
 
 returns-3 : tie.Need-returns-in_default
 returns-3 c =
     let p : tie.After-position-found = search in
-    record { answered = λ T g. not-held-replied g _ (stamped p) (from p) (told p T (found_nothing _ p.position-found.ensures c.enum_told.given.1)) }
+    record { answered = λ T g. not-held-replied g _ (stamped p) (from p) (told p T (found_nothing _ p.position-found.ensures c.in_default.is)) }
 
 returns-4 : tie.Need-returns-then-withdrawn-place-ne0
 returns-4 c =
-    let f : tie.In-At-2 = search in
+    let f : tie.In-At = search in
     record { answered = λ T g. already-replied g _ (stamped (searched f)) (from (searched f)) (at f T) c.if-withdrawn-place-ne0.true }
 
 returns-5 : tie.Need-returns
@@ -112,7 +112,7 @@ returns-5 c =
     let e : tie.Else-withdrawn-place-ne0 = search in
     let f = flagged e in
     let a = (start (searched f)).args in
-    let i = get_or a.order.now f.found.given.0.0 0 in
+    let i = get_or a.order.now f.in-At.k 0 in
     record {
       answered = λ T g.
           ap (λ (s : ℕ). reply answer.Done (with_lent T a.held.now a.timestamps.now a.order.now (set a.status.now i s) (set a.withdrawn.now i 1) a.cutoff.now)) c.unsettled.ensures
