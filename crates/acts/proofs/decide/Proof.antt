@@ -40,7 +40,7 @@ seen-hold-requires c κs =
 
 -- the values as of the position
 abbrev upto : tie.Start → Environment
-upto s = let a = s.args in values_below a.order.now a.writes.now a.targets.now a.written.now a.auto.now a.k
+upto s = let a = s.args in values_below a.order.now a.writes.now a.targets.now a.written.now a.kept.now a.k
 
 -- the values seen, as the search has them
 seen-held : (c : tie.After-seen_hold) → let s = entry (second c) in let a = s.args in c.seen_hold.result ≡ all_hold (list_in a.reads.now a.sources.now a.seen.now (get_or a.order.now a.k 0)) (upto s)

@@ -22,7 +22,7 @@ returns c =
     let a = start.args in
     let p = start.requires in
     altered-by (part-entries a.writes.now a.targets.now a.written.now _ (target_room p.0 p.2.listed) (value_room p.0 p.2.listed))
-    (first-entries a.size a.new-targets.now a.new-written.now (omega (arith, p.0.short, p.0.target-slots)) (omega (arith, p.0.short, p.0.value-slots)))
+    (first-entries a.size a.new_targets.now a.new_written.now (omega (arith, p.0.short, p.0.target-slots)) (omega (arith, p.0.short, p.0.value-slots)))
     c.alter_writes.ensures
 
 pub alter_spec : {M : Type 1} → statement M

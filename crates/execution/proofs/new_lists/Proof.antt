@@ -8,22 +8,18 @@ use Rattle.execution.proofs.new_lists.Statement.{statement}
 use Rattle.execution.proofs.new_lists.Tie as tie
 
 returns : tie.Need-returns-in-Run
-returns c = let at-enum-told : tie.In-Run = search in (made-ran at-enum-told.enum_told.given.1 c.run_change.ensures.0, c.run_change.ensures.1)
+returns c = (made-ran c.in-Run.is c.run_change.ensures.0, c.run_change.ensures.1)
 
 returns-2 : tie.Need-returns-in-Clear
 returns-2 c =
-    let at-enum-told2 : tie.In-Clear = search in
-    let start : tie.Start = search in
-    let p = start.requires in
+    let p = c.requires in
     let n = c.new.ensures in
-    (made-cleared at-enum-told2.enum-told2.given.1 p.1 (ap (λ (r : Run). r.reads) n) (ap (λ (r : Run). r.writes) n), looked-none p.2.right)
+    (made-cleared c.in-Clear.is p.1 (ap (λ (r : Run). r.reads) n) (ap (λ (r : Run). r.writes) n), looked-none p.2.right)
 
 returns-3 : tie.Need-returns-in-Stand
 returns-3 c =
-    let at-enum-told3 : tie.In-Stand = search in
-    let start : tie.Start = search in
-    let p = start.requires in
-    (made_none at-enum-told3.enum-told3.given.1 p.1, looked-none p.2.right)
+    let p = c.requires in
+    (made_none c.in-Stand.is p.1, looked-none p.2.right)
 
 pub new_lists_spec : {M : Type 1} → statement M
 new_lists_spec =

@@ -1,15 +1,15 @@
 -- `uses::last_uses` meets its contract: up to here the numbers tell the last readers and writers. Assumes nothing.
 use mathlib.Core.Path.{◌≡◌, ◌∙◌}
-use mathlib.Core.Logic.{⊎_elim}
-use Prim.Native.Nat.{◌-◌, ◌≤◌}
+use Prim.Native.Nat.{◌+◌, ◌-◌, ◌≤◌}
 use native.Mathlib.Omega.{arith}
 use borrow.Author.Rules.{rules}
 use Rattle.uses.specs.Columns.{columns}
-use Rattle.uses.specs.Uses.{LastUses}
+use Rattle.uses.specs.Uses.{Numbers, last_from, reads_valid, LastUses}
 use Rattle.uses.proofs.Lists.{reads-listed, writes-listed}
 use Rattle.uses.proofs.LastUses.{uses-none, readers-noted, readers-kept, writers-noted}
 use Rattle.general.proofs.Places.{the}
 use Rattle.uses.proofs.last_uses.Statement.{statement}
+use Rattle.uses.proofs.last_uses.Lts.{then-status-place-eq1, else-status-place-eq1}
 use Rattle.uses.proofs.last_uses.Tie as tie
 
 abbrev invariant-loop : tie.invariant-loop-p
@@ -48,9 +48,12 @@ loop-again c =
     let C = columns a.order.now a.reads.now a.sources.now a.writes.now a.targets.now in
     let h = l.invariant.0 in
     let u = l.invariant.2 in
-    let readers =
-    ⊎_elim (λ w. readers-noted C h a.status.now u.read w.0.true (w.3 ∙ w.2.ensures)) (λ w. readers-kept C h a.status.now u.read w.0.false w.1)
-    (the (tie.Joined-status-place-eq1 invariant-loop decreases-loop) (search)).if-status-place-eq1.branch in
+    let j : tie.Joined-status-place-eq1 invariant-loop decreases-loop = search in
+    let readers : Numbers j.if-status-place-eq1.readers (λ s. last_from (reads_valid C a.status.now s) a.from (l.p + 1)) =
+    elim j.if-status-place-eq1.branch [
+      | then-status-place-eq1 w ↦ readers-noted C h a.status.now u.read w.if-status-place-eq1.true (w.readers-is ∙ w.note_at.ensures)
+      | else-status-place-eq1 w ↦ readers-kept C h a.status.now u.read w.if-status-place-eq1.false w.readers-is
+    ] in
     (omega (arith, h), omega (arith, t.loop-p-test.true), record { read = readers; wrote = writers-noted C h u.wrote c.note_at-in-loop-p.ensures })
 
 returns : tie.Need-returns invariant-loop decreases-loop

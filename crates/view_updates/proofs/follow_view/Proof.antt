@@ -1,6 +1,5 @@
 -- `view_updates::follow_view` meets its contract: what is left of the settings is stored after what has been. Assumes nothing.
 use mathlib.Core.Path.{◌≡◌, refl, ap, ◌∙◌}
-use mathlib.Core.Logic.{⊎_elim}
 use Prim.Native.Nat.{◌+◌, ◌-◌, ◌<◌, ◌≤◌}
 use native.Mathlib.Omega.{arith}
 use borrow.Author.Rules.{rules}
@@ -9,6 +8,7 @@ use Rattle.machine.specs.Settings.{setting_count}
 use Rattle.view_updates.specs.View.{followed}
 use Rattle.view_updates.proofs.Steps.{follow-next, follow-kept, follow-end}
 use Rattle.view_updates.proofs.follow_view.Statement.{statement}
+use Rattle.view_updates.proofs.follow_view.Lts.{then-wide-from, else-wide-from}
 use Rattle.view_updates.proofs.follow_view.Tie as tie
 
 abbrev invariant-loop : tie.invariant-loop-i
@@ -32,10 +32,14 @@ loop-again c =
     let l = t.before.loop-i in
     let r = c.before.wide.ensures.0 in (
       omega arith,
-      ⊎_elim (λ w. ap length w.2 ∙ simp length-set l.invariant.1) (λ w. ap length w.1 ∙ l.invariant.1) c.if-wide-from.branch,
-      ⊎_elim (λ w. follow-next _ _ _ _ l.i l.view t.loop-i-test.true (omega (arith, w.0.true, r)) w.2 (search rules) ∙ l.invariant.2)
-          (λ w. follow-kept _ _ _ _ l.i l.view t.loop-i-test.true (omega (arith, w.0.false, r)) w.1 ∙ l.invariant.2)
-          c.if-wide-from.branch,
+      elim c.if-wide-from.branch [
+        | then-wide-from w ↦ ap length w.view-is ∙ simp length-set l.invariant.1
+        | else-wide-from w ↦ ap length w.view-is ∙ l.invariant.1
+      ],
+      elim c.if-wide-from.branch [
+        | then-wide-from w ↦ follow-next _ _ _ _ l.i l.view t.loop-i-test.true (omega (arith, w.if-wide-from.true, r)) w.view-is (search rules) ∙ l.invariant.2
+        | else-wide-from w ↦ follow-kept _ _ _ _ l.i l.view t.loop-i-test.true (omega (arith, w.if-wide-from.false, r)) w.view-is ∙ l.invariant.2
+      ],
     )
 
 returns : tie.Need-returns invariant-loop decreases-loop
