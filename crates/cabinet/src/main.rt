@@ -3,10 +3,9 @@
 
 ghost use Rattle.std.specs.Prelude.{◌≤◌, length, IfOk};
 
+use listing::put_listing;
 use std::io;
 use std::io::{Read, Write};
-
-use listing::put_listing;
 
 // Reads until the buffer is full or the input ends. The answer is how many bytes were read.
 fn read_full(reader: &mut (impl Read + Drop), buffer: &mut [u8]) -> io::Result<usize>

@@ -1,7 +1,6 @@
 // The types that the definitions of a program's meaning share with the code that runs it.
 #![tactic(auto)]
 
-
 // One instruction: operation, a, b, c and n.
 #[derive(Drop)]
 #[derive(Clone, Copy)]

@@ -1,7 +1,6 @@
 // The types of the calls' answers. A refusal is given by its number in document 01, "Turned down, in checking order".
 #![tactic(auto)]
 
-
 // Set up, take in, withdraw, take in a package, drain, plain run, start values.
 #[derive(Drop)]
 #[derive(Clone, Copy)]

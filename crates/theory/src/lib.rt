@@ -1,3 +1,2 @@
 // Theorems about the definitions of model; nothing depends on them.
 #![tactic(auto)]
-
