@@ -28,13 +28,13 @@ before-pass-from c = search
 fill-from-requires : tie.Need-fill_from-requires
 fill-from-requires c κs =
     let start : tie.Start = search in
-    ((facts start.requires.0.so.0).sizes.auto, length-replicate {A = ℤ} 1024 (pos 0))
+    ((facts start.requires.0.so.0).sizes.kept, length-replicate {A = ℤ} 1024 (pos 0))
 
 fill-from-requires-2 : tie.Need-fill_from-requires-2
 fill-from-requires-2 c κs =
     let at-fill-from : tie.After-fill_from = search in
     let start = before-fill-from at-fill-from in
-    ((facts start.requires.0.so.0).sizes.auto, length-replicate {A = ℤ} 1024 (pos 0))
+    ((facts start.requires.0.so.0).sizes.kept, length-replicate {A = ℤ} 1024 (pos 0))
 
 carry-below-requires : tie.Need-carry_below-requires
 carry-below-requires c κs =

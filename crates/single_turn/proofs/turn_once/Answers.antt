@@ -1,0 +1,17 @@
+-- `single_turn::turn_once`: an outcome for each return.
+use Rattle.search.proofs.Answers.{found_at, found_nothing}
+use Rattle.search.proofs.Waits.{placed-status}
+use Rattle.single_turn.proofs.Steps.{turn-idle, turn-single}
+use Rattle.single_turn.proofs.turn_once.Goals as goal
+
+pub waiting-requires : goal.waiting-requires
+waiting-requires c = placed-status c.requires.so
+
+pub turn_at-requires : goal.turn_at-requires
+turn_at-requires c = record { others = c.requires.others; so = turn-single c.requires.so (found_at _ c.waiting.ensures c.in-At.is) }
+
+pub returns-in-At : goal.returns-in-At
+returns-in-At c T g = (c.turn_at.ensures T (turn-single g (found_at _ c.waiting.ensures c.in-At.is))).0
+
+pub returns-in-Nothing : goal.returns-in-Nothing
+returns-in-Nothing c T g = turn-idle g (found_nothing _ c.waiting.ensures c.in-Nothing.is)
