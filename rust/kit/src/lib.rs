@@ -4,43 +4,55 @@
 #![warn(missing_docs)]
 
 use std::path::{Path, PathBuf};
-use std::process::{exit, Command};
+use std::process::{exit, Command, Stdio};
 use std::{env, fs};
 
 /// Has the calls proved and built as the product's static library by `./library`, and links it. Returns the archive.
 pub fn link_library() -> PathBuf {
-    link_archive(&["bash", "library"], "tolbezun")
+    let archive = build(".", &["bash", "library"], "target/staticlib/libtolbezun.a");
+    link_archive(archive, "tolbezun")
 }
 
 /// Has the crate `name` proved and built as a static library, and links it. Returns the archive.
 pub fn link(name: &str) -> PathBuf {
-    link_archive(&["rt", "staticlib", name], name)
+    let archive = build(
+        &format!("crates/{name}"),
+        &["rt", "lib"],
+        &format!("out/lib{name}.a"),
+    );
+    link_archive(archive, name)
 }
 
-fn link_archive(command: &[&str], name: &str) -> PathBuf {
-    let archive = build(command, &format!("target/staticlib/lib{name}.a"));
+fn link_archive(archive: PathBuf, name: &str) -> PathBuf {
     let folder = archive.parent().expect("this is the path of a file");
     println!("cargo::rustc-link-search=native={}", folder.display());
     println!("cargo::rustc-link-lib=static={name}");
     archive
 }
 
-/// Has the crate `name` proved and built as a program. Returns the program.
+/// Has the crate `name` proved and built as a program: the kit builds one in order to run it, here on no input. Returns the program.
 pub fn program(name: &str) -> PathBuf {
-    build(&["rt", "check", name], &format!("target/bin/{name}"))
+    build(
+        &format!("crates/{name}"),
+        &["rt", "run"],
+        &format!("out/{name}"),
+    )
 }
 
-/// Has this command carried out in the repository, and returns a copy of the file that it leaves.
-fn build(command: &[&str], file: &str) -> PathBuf {
+/// Has this command carried out in a folder of the repository, and returns a copy of the file that it leaves there.
+fn build(folder: &str, command: &[&str], file: &str) -> PathBuf {
     let root = variable("CARGO_MANIFEST_DIR").join("../..");
-    for source in ["crates.txt", "crates", "library"] {
+    for source in ["crates.txt", "library"] {
         watch(&root.join(source));
     }
+    watch_sources(&root.join("crates"));
     watch_kit();
     let line = command.join(" ");
     let built = Command::new(command[0])
         .args(&command[1..])
-        .current_dir(&root)
+        .current_dir(root.join(folder))
+        .stdin(Stdio::null())
+        .stdout(Stdio::null())
         .status();
     match built {
         Ok(status) if status.success() => {}
@@ -48,8 +60,8 @@ fn build(command: &[&str], file: &str) -> PathBuf {
         Err(error) => fail(&format!("cannot run `{line}`: {error}")),
     }
 
-    // `rt ci` removes the repository's target folder, so a copy is linked or run.
-    let built = root.join(file);
+    // The kit may replace what it built, so a copy is linked or run.
+    let built = root.join(folder).join(file);
     let file_name = built.file_name().expect("this is the path of a file");
     let copy = variable("OUT_DIR").join(file_name);
     if let Err(error) = fs::copy(&built, &copy) {
@@ -88,6 +100,19 @@ fn ask_kit(command: &str) -> String {
         }
         Ok(output) => fail(&format!("`rt {command}` failed: {}", output.status)),
         Err(error) => fail(&format!("cannot run `rt {command}`: {error}")),
+    }
+}
+
+/// Watches what each crate is proved and built from, and not `out`, into which the kit writes.
+fn watch_sources(crates: &Path) {
+    let folders =
+        fs::read_dir(crates).unwrap_or_else(|error| fail(&format!("cannot read crates: {error}")));
+    for folder in folders.flatten() {
+        let parts = ["src", "specs", "proofs"].map(|part| folder.path().join(part));
+        parts
+            .iter()
+            .filter(|part| part.exists())
+            .for_each(|part| watch(part));
     }
 }
 
