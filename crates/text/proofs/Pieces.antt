@@ -1,12 +1,11 @@
 -- Pieces of text put one after another.
-use mathlib.Core.Path.{◌≡◌, sym, ap, ap₂, subst, ◌∙◌}
+use mathlib.Core.Path.{◌≡◌, refl, sym, ap, ap₂, subst, ◌∙◌}
 use mathlib.Core.List.{List, [], ◌++◌, append_assoc, append-nil}
 use Prim.Native.Nat.{ℕ, ◌+◌, ◌-◌, ◌≤◌}
-use native.Mathlib.Nat.{le_of_eq}
 use native.Mathlib.Omega.{arith}
-use borrow.Rule.Slice.PartMut.{mid_of, post_of, put_mid}
-use lib.ListN.{length, take, drop, length-append, length-drop, drop_of_length-le, take-append-drop}
-use lib.Seq.{take_all, take-length, take_at, drop-append-add, drop-drop, length-take-le}
+use borrow.Rule.Slice.PartMut.{put_mid, Post-is}
+use lib.ListN.{length, take, drop, length-append, take-append-drop}
+use lib.Seq.{take_at, drop-append-add, drop-drop, length-take-le}
 use Rattle.text.specs.Pieces.{with_piece, Put}
 
 -- a piece by another name
@@ -52,16 +51,11 @@ module _ {at : ℕ} {p before after : List ℕ} {end : ℕ} (h : Put at p before
             ∙ ap₂ (λ (l : List ℕ) (k : ℕ). l ++ drop k before) (append_assoc (take at before) p q) e;
       }
 
--- a piece copied to the start of what follows a place
-pub copied : (at : ℕ) (piece buffer last : List ℕ) {n : ℕ} → n ≡ length piece → last ≡ take (length piece) piece ++ drop (length piece) (mid_of at (length buffer - at) buffer) → Put at piece buffer (put_mid at (length buffer - at) buffer last) (at + n)
+-- a piece copied to what lies between a place and the end of the piece
+pub copied : (at : ℕ) (piece buffer last : List ℕ) → last ≡ piece → Put at piece buffer (put_mid at (at + length piece - at) buffer last) (at + length piece)
 unfolding with_piece
-copied at piece buffer last q e =
-    let whole : mid_of at (length buffer - at) buffer ≡ drop at buffer = take_all _ _ (le_of_eq (length-drop at buffer)) in
-    let none : post_of at (length buffer - at) buffer ≡ [] = drop_of_length-le (drop at buffer) (le_of_eq (length-drop at buffer)) in
+copied at piece buffer last e =
     record {
-      ends = ap (λ (k : ℕ). at + k) q;
-      holds =
-          ap₂ (λ (l m : List ℕ). take at buffer ++ (l ++ m)) e none
-          ∙ ap (λ (l : List ℕ). take at buffer ++ l) (append-nil _ ∙ ap₂ ◌++◌ (take-length piece) (ap (drop (length piece)) whole ∙ drop-drop (length piece) at buffer))
-          ∙ sym (append_assoc (take at buffer) piece _);
+      ends = refl;
+      holds = ap₂ (λ (l m : List ℕ). take at buffer ++ (l ++ m)) e (Post-is at (at + length piece) buffer (omega arith)) ∙ sym (append_assoc (take at buffer) piece _);
     }
