@@ -11,7 +11,7 @@ use Rattle.queries.proofs.current_value.Tie as tie
 abbrev lent : tie.Start → Tables
 lent s =
     let a = s.args in
-    tables a.held.now a.timestamps.now a.order.now a.status.now a.withdrawn.now a.lengths.now a.programs.now a.reads.now a.writes.now a.sources.now a.seen.now a.targets.now a.written.now a.view.now a.versions.now a.cutoff.now a.auto.now
+    tables a.held.now a.timestamps.now a.order.now a.status.now a.withdrawn.now a.lengths.now a.programs.now a.reads.now a.writes.now a.sources.now a.seen.now a.targets.now a.written.now a.view.now a.versions.now a.cutoff.now a.kept.now
 
 abbrev entry : tie.After-fault-refusal → tie.Start
 entry c = search

@@ -18,7 +18,7 @@ use Rattle.queries.proofs.plain_run.Tie as tie
 abbrev lent : tie.Start → Tables
 lent s =
     let a = s.args in
-    tables a.held.now a.timestamps.now a.order.now a.status.now a.withdrawn.now a.lengths.now a.programs.now a.reads.now a.writes.now a.sources.now a.seen.now a.targets.now a.written.now a.view.now a.versions.now a.cutoff.now a.auto.now
+    tables a.held.now a.timestamps.now a.order.now a.status.now a.withdrawn.now a.lengths.now a.programs.now a.reads.now a.writes.now a.sources.now a.seen.now a.targets.now a.written.now a.view.now a.versions.now a.cutoff.now a.kept.now
 
 abbrev entered : tie.After-fault-refusal → tie.Start
 entered c = search
@@ -62,7 +62,7 @@ plain_run_spec =
     returns-2
     (λ c κs. (facts (fits c)).sizes.held)
     (λ c. refl)
-    (λ c κs. ((facts (fits (search))).sizes.auto, refl))
+    (λ c κs. ((facts (fits (search))).sizes.kept, refl))
     (λ c. omega (arith, (the tie.After-fill_from (search)).fill_from.auto))
     run-held-requires
     (λ c. search rules)
