@@ -2,6 +2,7 @@
 use mathlib.Core.Path.{◌∙◌}
 use borrow.Author.Rules.{sfits_of}
 use mir.Facts.{to_z-of_z}
+use mir.Syntax.{w64}
 use Rattle.model.specs.declared.Value.{Value}
 use Rattle.model.specs.Calls.{value_given}
 use Rattle.answer_numbers.specs.Numbers.{value_number}
@@ -11,7 +12,7 @@ use Rattle.export_queries.proofs.tolbezun_value_as_of.Tie as tie
 
 returns : tie.Need-returns
 returns c =
-    to_z-of_z (sfits_of c.value_number.type_inv)
+    to_z-of_z {w = w64} (sfits_of c.value_number.type_inv)
     ∙ of-call (λ (v : Value). value_number (value_given v)) c.value_number.ensures c.before.value_as_of.ensures
 
 pub tolbezun_value_as_of_spec : {M : Type 1} → statement M

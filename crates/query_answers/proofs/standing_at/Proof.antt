@@ -1,5 +1,5 @@
 -- `query_answers::standing_at` meets its contract: the tests of the code are those of the definition, in order. Assumes nothing.
-use mathlib.Core.Path.{◌≡◌}
+use mathlib.Core.Path.{◌≡◌, sym, ◌∙◌}
 use mathlib.Core.Option.{Option, some}
 use Prim.Native.Nat.{ℕ, ◌<◌}
 use native.Mathlib.Omega.{arith}
@@ -16,18 +16,18 @@ use Rattle.query_answers.proofs.standing_at.Tie as tie
 abbrev entry : tie.After-position → tie.Start
 entry c = search
 
-abbrev searched : tie.In-At-2 → tie.After-position
+abbrev searched : tie.In-At → tie.After-position
 searched c = search
 
 -- the timestamp is one, so the position tells the answer
 told : (c : tie.After-position) {x : Option ℕ} → let a = (entry c).args in position_of a.order.now a.timestamps.now a.timestamp a.count ≡ x → standing_found a.order.now a.status.now a.withdrawn.now x ≡ standing_answer a.order.now a.timestamps.now a.status.now a.withdrawn.now a.cutoff a.count a.timestamp
-told c e = let at-else2 : tie.Else-timestamp-cutoff = search in let t : tie.Else-not-is_timestamp = search in rw (← e, ← t.before.is_timestamp.ensures, t.if-not-is_timestamp.false, le-ltb _ _ at-else2.if-timestamp-cutoff.false)
+told c e = let at-else2 : tie.Else-timestamp-cutoff = search in let t : tie.Else-not-is_timestamp = search in rw (← e, sym t.before.is_timestamp.ensures ∙ t.if-not-is_timestamp.false, le-ltb _ _ at-else2.if-timestamp-cutoff.false)
 
 -- the position that was found, and the place there
-at : (c : tie.In-At-2) → let a = (entry (searched c)).args in position_of a.order.now a.timestamps.now a.timestamp a.count ≡ some c.k.given.0.0
-at c = found_at _ (searched c).position.ensures c.k.given.1
+at : (c : tie.In-At) → let a = (entry (searched c)).args in position_of a.order.now a.timestamps.now a.timestamp a.count ≡ some c.in-At.k
+at c = found_at _ (searched c).position.ensures c.in-At.is
 
-within : (c : tie.In-At-2) → let s = entry (searched c) in let k = c.k.given.0.0 in let place = get_or s.args.order.now k 0 in (k < length s.args.order.now) × (place < length s.args.status.now) × (place < length s.args.withdrawn.now)
+within : (c : tie.In-At) → let s = entry (searched c) in let k = c.in-At.k in let place = get_or s.args.order.now k 0 in (k < length s.args.order.now) × (place < length s.args.status.now) × (place < length s.args.withdrawn.now)
 within c =
     let p = (entry (searched c)).requires in
     let k = position-below _ _ _ _ (at c) in
@@ -35,16 +35,16 @@ within c =
     (omega (arith, p.0.long), omega (arith, p.1), omega (arith, p.2))
 
 returns : tie.Need-returns-then-not-is_timestamp
-returns c = rw (← c.before.is_timestamp.ensures, c.if-not-is_timestamp.true)
+returns c = rw (sym c.before.is_timestamp.ensures ∙ c.if-not-is_timestamp.true)
 
 returns-2 : tie.Need-returns-then-timestamp-cutoff
-returns-2 c = let t : tie.Else-not-is_timestamp = search in rw (← t.before.is_timestamp.ensures, t.if-not-is_timestamp.false, lt-ltb _ _ c.if-timestamp-cutoff.true)
+returns-2 c = let t : tie.Else-not-is_timestamp = search in rw (sym t.before.is_timestamp.ensures ∙ t.if-not-is_timestamp.false, lt-ltb _ _ c.if-timestamp-cutoff.true)
 
 returns-3 : tie.Need-returns-in-At
-returns-3 c = let k : tie.In-At-2 = search in told (searched k) (at k)
+returns-3 c = let k : tie.In-At = search in told (searched k) (at k)
 
 returns-4 : tie.Need-returns-in-Nothing
-returns-4 c = let p : tie.After-position = search in told p (found_nothing _ p.position.ensures c.enum_told.given.1)
+returns-4 c = let p : tie.After-position = search in told p (found_nothing _ p.position.ensures c.in-Nothing.is)
 
 pub standing_at_spec : {M : Type 1} → statement M
 standing_at_spec =
