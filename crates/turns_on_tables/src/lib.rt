@@ -1,0 +1,191 @@
+// A turn, a single turn and all turns of a drain, told on all the lent tables: the number held is read from its table.
+#![tactic(auto)]
+
+ghost use Rattle.std.specs.Prelude.{◌≡◌, true, ◌+◌, length, replicate};
+ghost use Rattle.model.specs.Drain.{total_count};
+ghost use Rattle.model.specs.Tables.{tables, with_turn};
+ghost use Rattle.model.specs.Calls.{reply};
+ghost use Rattle.model.specs.Form.{Formed};
+ghost use Rattle.turns.specs.Turns.{turned, Going, Turnable};
+ghost use Rattle.passing.specs.Drained.{drained};
+
+use model::Turned;
+use tables::held_count;
+
+// The turn of the change at position k, with the values as of it that are known. What is noted of the settings serves a drain; a single turn has nothing noted.
+pub fn turn_at(
+    noted: bool,
+    k: usize,
+    held: &[u16],
+    timestamps: &[u64],
+    order: &[u16],
+    status: &mut [u16],
+    withdrawn: &[u16],
+    lengths: &[u16],
+    programs: &[u8],
+    reads: &mut [u16],
+    writes: &mut [u16],
+    sources: &mut [u16],
+    seen: &mut [i32],
+    targets: &mut [u16],
+    written: &mut [i32],
+    view: &mut [i32],
+    versions: &[u16],
+    cutoff: &[u64],
+    kept: &[i32],
+    before: &mut [i32; 1024],
+    after: &mut [i32; 1024],
+    known: &mut [u8; 1024],
+    readers: &mut [u16; 1024],
+    writers: &mut [u16; 1024],
+    settled: &mut [u16; 1024],
+) -> Turned
+    requires { let T =
+        tables held.now timestamps.now order.now status.old withdrawn.now lengths.now programs.now reads.old
+        writes.old sources.old seen.old targets.old written.old view.old versions.now cutoff.now kept.now in
+        Turnable noted k T known.old before.old after.old readers.old writers.old settled.old }
+    ensures { let T =
+        tables held.now timestamps.now order.now status.old withdrawn.now
+        lengths.now programs.now reads.old writes.old sources.old
+        seen.old targets.old written.old view.old versions.now cutoff.now kept.now in
+        let U =
+        with_turn T status.new reads.new writes.new sources.new seen.new
+        targets.new written.new view.new in
+        (reply result U ≡ turned T)
+        × (noted ≡ true → Going (k + 1) U known.new before.new after.new readers.new
+        writers.new settled.new) }
+{
+    turns::turn_at(
+        noted,
+        k,
+        held_count(held),
+        timestamps,
+        order,
+        status,
+        withdrawn,
+        lengths,
+        programs,
+        reads,
+        writes,
+        sources,
+        seen,
+        targets,
+        written,
+        view,
+        versions,
+        kept,
+        before,
+        after,
+        known,
+        readers,
+        writers,
+        settled,
+    )
+}
+
+// One turn: idle, or that of the lowest stamped change that is New or Invalid.
+pub fn turn_once(
+    held: &[u16],
+    timestamps: &[u64],
+    order: &[u16],
+    status: &mut [u16],
+    withdrawn: &[u16],
+    lengths: &[u16],
+    programs: &[u8],
+    reads: &mut [u16],
+    writes: &mut [u16],
+    sources: &mut [u16],
+    seen: &mut [i32],
+    targets: &mut [u16],
+    written: &mut [i32],
+    view: &mut [i32],
+    versions: &[u16],
+    cutoff: &[u64],
+    kept: &[i32],
+) -> Turned
+    requires { Formed (length order.now)
+        (tables held.now timestamps.now order.now status.old withdrawn.now lengths.now programs.now reads.old
+        writes.old sources.old seen.old targets.old written.old view.old versions.now cutoff.now kept.now) }
+    ensures { let T =
+        tables held.now timestamps.now order.now status.old withdrawn.now
+        lengths.now programs.now reads.old writes.old sources.old
+        seen.old targets.old written.old view.old versions.now cutoff.now kept.now in
+        reply result
+        (with_turn T status.new reads.new writes.new sources.new seen.new
+        targets.new written.new view.new)
+        ≡ turned T }
+{
+    single_turn::turn_once(
+        held_count(held),
+        timestamps,
+        order,
+        status,
+        withdrawn,
+        lengths,
+        programs,
+        reads,
+        writes,
+        sources,
+        seen,
+        targets,
+        written,
+        view,
+        versions,
+        kept,
+    )
+}
+
+// A drain, its turns counted in totals that are 0 before; none, where no change waits.
+pub fn turn_all(
+    held: &[u16],
+    timestamps: &[u64],
+    order: &[u16],
+    status: &mut [u16],
+    withdrawn: &[u16],
+    lengths: &[u16],
+    programs: &[u8],
+    reads: &mut [u16],
+    writes: &mut [u16],
+    sources: &mut [u16],
+    seen: &mut [i32],
+    targets: &mut [u16],
+    written: &mut [i32],
+    view: &mut [i32],
+    versions: &[u16],
+    cutoff: &[u64],
+    kept: &[i32],
+    totals: &mut [u16],
+)
+    requires { Formed (length order.now)
+        (tables held.now timestamps.now order.now status.old withdrawn.now lengths.now programs.now reads.old
+        writes.old sources.old seen.old targets.old written.old view.old versions.now cutoff.now kept.now)
+        × (totals.old ≡ replicate total_count 0) }
+    ensures { let T =
+        tables held.now timestamps.now order.now status.old withdrawn.now
+        lengths.now programs.now reads.old writes.old sources.old
+        seen.old targets.old written.old view.old versions.now cutoff.now kept.now in
+        reply totals.new
+        (with_turn T status.new reads.new writes.new sources.new seen.new
+        targets.new written.new view.new)
+        ≡ drained T }
+{
+    drains::turn_all(
+        held_count(held),
+        timestamps,
+        order,
+        status,
+        withdrawn,
+        lengths,
+        programs,
+        reads,
+        writes,
+        sources,
+        seen,
+        targets,
+        written,
+        view,
+        versions,
+        kept,
+        totals,
+    )
+}
