@@ -29,7 +29,7 @@ loop-again c =
     let v = c.before in
     let l : tie.At-loop-i invariant-loop decreases-loop = search in
     elim c.if-before-x.branch [
-      then-before-x w ↦ rw w.total-is (collecting-one l.loop-i.invariant (omega arith) (omega arith) w.if-before-x.true)
+      | then-before-x w ↦ rw w.total-is (collecting-one l.loop-i.invariant (omega arith) (omega arith) w.if-before-x.true)
       | else-before-x w ↦ rw w.total-is (collecting-same l.loop-i.invariant (omega arith) (omega arith) (sfits_of old.t18-1.given) (sfits_of v.t22-1.given) w.if-before-x.false)
     ]
 
