@@ -4,7 +4,6 @@ use mathlib.Core.Bool.{true}
 use Prim.Native.Nat.{◌-◌, ◌≤◌}
 use native.Mathlib.Omega.{arith}
 use borrow.Author.Rules.{rules}
-use borrow.Author.Tests.{not-true, not-false}
 use Rattle.general.specs.Lists.{all_below}
 use Rattle.machine.proofs.Form.{not_all_below}
 use Rattle.general.proofs.Checks.{all-below-next}

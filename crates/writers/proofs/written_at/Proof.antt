@@ -3,7 +3,6 @@ use mathlib.Core.Path.{◌≡◌, refl, sym, ap, ◌∙◌}
 use Prim.Native.Nat.{◌≤◌, ◌*◌}
 use native.Mathlib.Omega.{arith}
 use borrow.Author.Rules.{rules, sfits_of}
-use borrow.Author.Tests.{not-true}
 use lib.ListN.{drop}
 use mir.Facts.{to_z-of_z}
 use Rattle.machine.specs.Settings.{entries, lookup}

@@ -1,7 +1,7 @@
 -- `tables::form::lengths_fit` meets its contract: the tests of the code are those of the definition, in order. Assumes nothing.
 use Prim.Native.Nat.{◌≤◌}
 use native.Mathlib.Omega.{arith}
-use borrow.Author.Tests.{not-true, not-false, leb-true}
+use borrow.Author.Tests.{leb-true}
 use lib.Dec.{leb}
 use Rattle.general.proofs.Cases.{both}
 use Rattle.tables.proofs.Checks.{out_of_range, lengths-tested}
