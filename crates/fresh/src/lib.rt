@@ -90,7 +90,8 @@ pub fn run_held(
     let mut k = 0;
     while k < count {
         let place = order[k] as usize;
-        if withdrawn[place] == 0 {
+        let stands = withdrawn[place] == 0;
+        if stands {
             let begin = 256 * place;
             let end = begin + 8 * (lengths[place] as usize);
             apply(versions[place], &programs[begin..end], values);

@@ -44,7 +44,8 @@ pub fn put_withdrawal(flag: u16, timestamp: u64, bytes: &mut [u8], at: usize) ->
     requires { at + 12 * flag ≤ length bytes.old }
     ensures { Put at (withdrawal_bytes flag timestamp) bytes.old bytes.new result }
 {
-    if flag == 0 {
+    let stands = flag == 0;
+    if stands {
         return at;
     }
     put_entry(timestamp, 1, 0, 0, bytes, at)

@@ -126,7 +126,9 @@ pub fn refusal_with(fault: u8, bytes: &[u8]) -> u8
     if fault != 0 {
         return fault;
     }
-    if !layout_fits(bytes) {
+    let fits = layout_fits(bytes);
+    let wrong = !fits;
+    if wrong {
         return 3;
     }
     0

@@ -90,7 +90,8 @@ pub fn standing_at(
 pub fn start_values(settings: &mut [i32]) -> Answer
     ensures { plain_reply result settings.new ≡ start_values settings.old }
 {
-    if settings.len() == 1024 {
+    let fits = settings.len() == 1024;
+    if fits {
         fill_start(settings);
         return Answer::Done;
     }

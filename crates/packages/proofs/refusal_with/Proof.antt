@@ -10,5 +10,5 @@ refusal_with_spec =
     (tie.spec
     (λ c. rw (ne_eqb _ 0 c.if-fault-ne0.true))
     (λ c κs. tt)
-    (λ c. let at-else1 : tie.Else-fault-ne0 = search in rw (eq-eqb _ 0 at-else1.if-fault-ne0.false, sym c.before.layout_fits.ensures ∙ c.if-not-layout_fits.true))
-    (λ c. let at-else1 : tie.Else-fault-ne0 = search in rw (eq-eqb _ 0 at-else1.if-fault-ne0.false, sym c.before.layout_fits.ensures ∙ c.if-not-layout_fits.false)))
+    (λ c. let at-else1 : tie.Else-fault-ne0 = search in rw (eq-eqb _ 0 at-else1.if-fault-ne0.false, sym c.layout_fits-fits.ensures ∙ c.if-wrong.true))
+    (λ c. let at-else1 : tie.Else-fault-ne0 = search in rw (eq-eqb _ 0 at-else1.if-fault-ne0.false, sym c.layout_fits-fits.ensures ∙ c.if-wrong.false)))

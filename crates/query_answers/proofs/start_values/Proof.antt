@@ -22,11 +22,11 @@ module _ (settings : List ℤ) where
   unfolding start_values
   start-done l e = rw (eq-eqb _ setting_count l) (ap (plain_reply answer.Done) (e ∙ all_start))
 
-returns : tie.Need-returns-then-settings-eq1024
-returns c = let at-fill-start : tie.After-fill_start = search in let at-then1 : tie.Then-settings-eq1024 = search in start-done _ at-then1.if-settings-eq1024.true at-fill-start.fill_start.ensures
+returns : tie.Need-returns-then-fits
+returns c = let at-fill-start : tie.After-fill_start = search in let at-then1 : tie.Then-fits = search in start-done _ at-then1.if-fits.true at-fill-start.fill_start.ensures
 
 returns-2 : tie.Need-returns
-returns-2 c = start-wrong-length _ c.if-settings-eq1024.false
+returns-2 c = start-wrong-length _ c.if-fits.false
 
 pub start_values_spec : {M : Type 1} → statement M
-start_values_spec = tie.close (tie.spec (λ c κs. let at-then1 : tie.Then-settings-eq1024 = search in at-then1.if-settings-eq1024.true) (λ c. let at-fill-start : tie.After-fill_start = search in omega (arith, at-fill-start.fill_start.auto)) returns returns-2)
+start_values_spec = tie.close (tie.spec (λ c κs. let at-then1 : tie.Then-fits = search in at-then1.if-fits.true) (λ c. let at-fill-start : tie.After-fill_start = search in omega (arith, at-fill-start.fill_start.auto)) returns returns-2)

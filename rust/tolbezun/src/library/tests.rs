@@ -144,7 +144,7 @@ fn of_source() -> Vec<Function> {
             answer: in_c(answer.split_whitespace().next().expect("a type")),
         }
     };
-    let exported = text.split("#[no_mangle]\npub extern \"C\" fn ").skip(1);
+    let exported = text.split("#[unsafe(no_mangle)]\npub extern \"C\" fn ").skip(1);
     exported.map(function).collect()
 }
 
