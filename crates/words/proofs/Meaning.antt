@@ -7,6 +7,7 @@ use Rattle.std.specs.Int.Count.{ones, ones_in, ones_step, ones-ones}
 use Rattle.std.specs.Int.{w32}
 use mir.Val.{SFits, of_z, sel}
 use mir.ValLaws.{to_z-Fits, to_z-of_z, of_z-to_z}
+use Rattle.words.specs.Congruence.{Congruent}
 use Rattle.words.specs.Words.{pattern_of, number_of, wrap, floor_div, ones_of, is_zero}
 
 -- ---- division rounded down
@@ -48,10 +49,6 @@ floor_div-unique z (negsuc a) m r h e =
     ∙ ap (λ y. floor_div y m) (sym (negative-multiple a m r h) ∙ e)
 
 -- ---- the pattern: the number modulo 2^32
-
--- w and z are congruent modulo 2^32
-abbrev pub Congruent : ℤ → ℤ → Type 0
-Congruent w z = (k : ℤ) × (w +ℤ k *ℤ pos (2 ^ 32) ≡ z)
 
 -- a pattern is from 0 to 2^32 − 1
 pub pattern_of-range : (z : ℤ) → pattern_of z < 2 ^ 32
