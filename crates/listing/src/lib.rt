@@ -35,12 +35,12 @@ pub fn put_listing(
     answers: &mut [u8],
     text: &mut [u8],
 ) -> usize
-    requires kept_value { lengths_fit capacity
+    requires fitting { lengths_fit capacity
         (tables held.old timestamps.old order.old status.old withdrawn.old lengths.old programs.old
         reads.old writes.old sources.old seen.old targets.old written.old view.old versions.old cutoff.old kept.old)
         ≡ true }
     requires answers_len { (length answers.old ≡ 512) × (131072 ≤ length text.old) }
-    ensures fact { let T =
+    ensures listed { let T =
         tables held.old timestamps.old order.old status.old withdrawn.old
         lengths.old programs.old reads.old writes.old sources.old
         seen.old targets.old written.old view.old versions.old cutoff.old kept.old in

@@ -9,7 +9,7 @@ use lib.Dec.{eqb, leb, ltb}
 use lib.IntN.{ℤ, pos}
 use lib.ListN.{length, get_or, drop, replicate}
 use Rattle.words.specs.Words.{is_zero}
-use Rattle.words.proofs.Meaning.{is_zero-only}
+use Rattle.words.specs.Meaning.{is_zero-only}
 use Rattle.machine.specs.Settings.{setting_count}
 use Rattle.machine.specs.Form.{all_well_formed}
 use Rattle.general.proofs.Cases.{both, either}

@@ -92,7 +92,7 @@ pub fn put_reply(
         (tables held.now timestamps.now order.now status.old withdrawn.now lengths.now programs.now
         reads.old writes.old sources.old seen.old targets.old written.old view.old versions.now cutoff.now kept.now) }
     requires answers_len { (length answers.now ≡ 512) × (131072 ≤ length text.old) }
-    ensures fact { let T =
+    ensures replied { let T =
         tables held.now timestamps.now order.now status.old withdrawn.now
         lengths.now programs.now reads.old writes.old sources.old
         seen.old targets.old written.old view.old versions.now cutoff.now kept.now in

@@ -14,7 +14,7 @@ use mir.Syntax.{w32, w64}
 use mir.Val.{Fits, SFits, to_z, of_z}
 use mir.ValLaws.{to_z-of_z, to_z_pos, sfits_le}
 use Rattle.words.specs.Words.{pattern_of, number_of, wrap, floor_div, is_zero}
-use Rattle.words.proofs.Meaning.{bits-pattern, wrap-range}
+use Rattle.words.specs.Meaning.{bits-pattern, wrap-range}
 
 -- ---- 32 bits
 

@@ -1,4 +1,4 @@
--- Signed 32-bit numbers as integers, and their 32-bit patterns. Meaning.antt proves that each definition is what its comment says.
+-- Signed 32-bit numbers as integers, and their 32-bit patterns. Meaning.antt and proofs/Division.antt prove that each definition is what its comment says.
 use Rattle.std.specs.Prelude.{Bool, false, ℕ, suc, ◌-◌, ◌/◌, ◌%◌, ◌^◌, ℤ, pos, negsuc, ltb, eqb}
 use Rattle.std.specs.Int.Count.{ones_in}
 use mir.Val.{sel}

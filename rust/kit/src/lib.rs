@@ -5,7 +5,7 @@
 
 use std::path::{Path, PathBuf};
 use std::process::{exit, Command, Stdio};
-use std::{env, fs};
+use std::{env, fs, io};
 
 /// Has the calls proved and built as the product's static library by `./library`, and links it. Returns the archive.
 pub fn link_library() -> PathBuf {
@@ -52,7 +52,7 @@ fn build(folder: &str, command: &[&str], file: &str) -> PathBuf {
         .args(&command[1..])
         .current_dir(root.join(folder))
         .stdin(Stdio::null())
-        .stdout(Stdio::null())
+        .stdout(Stdio::from(io::stderr()))
         .status();
     match built {
         Ok(status) if status.success() => {}

@@ -8,6 +8,6 @@ use Rattle.cabinet.proofs.main.Goals as goal
 
 pub put_listing-end-requires : goal.put_listing-end-requires
 put_listing-end-requires c = record {
-  kept_value = zeros-fit;
+  fitting = zeros-fit;
   answers_len = (length-replicate {A = ℕ} 512 0, le_of_eq (sym (length-replicate {A = ℕ} 131072 0)));
 }

@@ -3,7 +3,7 @@ use Rattle.listing.proofs.Replies.{package-answered, listed}
 use Rattle.listing.proofs.put_listing.Goals as goal
 
 pub put_reply-requires-clause-answered : goal.put_reply-requires-clause-answered
-put_reply-requires-clause-answered c = package-answered _ c.requires.kept_value c.args.bytes.now c.args.answers.now c.take_in_anew-answer.ensures c.requires.answers_len.0
+put_reply-requires-clause-answered c = package-answered _ c.requires.fitting c.args.bytes.now c.args.answers.now c.take_in_anew-answer.ensures c.requires.answers_len.0
 
-pub returns-clause-fact : goal.returns-clause-fact
-returns-clause-fact c = listed _ c.requires.kept_value c.args.bytes.now c.args.answers.now c.take_in_anew-answer.ensures c.put_reply.ensures.fact
+pub returns-clause-listed : goal.returns-clause-listed
+returns-clause-listed c = listed _ c.requires.fitting c.args.bytes.now c.args.answers.now c.take_in_anew-answer.ensures c.put_reply.ensures.replied

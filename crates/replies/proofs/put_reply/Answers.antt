@@ -10,7 +10,7 @@ put_settings-requires c =
     let answered = c.requires.answered (sym c.answer_number-refusal.ensures ∙ c.if-refusal-ne0.false) in
     (omega (arith, c.put_turns-end.auto.view, (facts answered.formed).sizes.view), omega (arith, c.requires.answers_len.1))
 
-pub returns-clause-fact : goal.returns-clause-fact
-returns-clause-fact c =
+pub returns-clause-replied : goal.returns-clause-replied
+returns-clause-replied c =
     let q = reply-answered c.args.bytes.now c.args.answers.now c.args.answer _ c.answer_number-refusal.ensures c.if-refusal-ne0.false c.put_turns-end.ensures.left in
     put_as (put_then (put_then c.put_entries-end.ensures.put (omega arith) c.put_turns-end.ensures.put) (omega arith) c.put_settings.ensures.put) q

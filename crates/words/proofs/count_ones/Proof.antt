@@ -6,7 +6,7 @@ use lib.Count.{ones, ones-le}
 use lib.IntN.{pos}
 use mir.Syntax.{w32}
 use mir.ValLaws.{to_z-of_z}
-use Rattle.words.proofs.Meaning.{pattern_of-range, ones_of-ones}
+use Rattle.words.specs.Meaning.{pattern_of-range, ones_of-ones}
 use Rattle.words.specs.Words.{pattern_of}
 use Rattle.words.proofs.count_ones.Statement.{statement}
 use Rattle.words.proofs.count_ones.Tie as tie

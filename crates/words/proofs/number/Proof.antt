@@ -7,7 +7,7 @@ use mir.Syntax.{w32, w64}
 use mir.Val.{SFits, to_z}
 use mir.ValLaws.{to_z-of_z}
 use Rattle.words.proofs.Laws.{fits-64, high-pattern-number}
-use Rattle.words.proofs.Meaning.{number_of-range}
+use Rattle.words.specs.Meaning.{number_of-range}
 use Rattle.words.specs.Words.{number_of}
 use Rattle.words.proofs.number.Statement.{statement}
 use Rattle.words.proofs.number.Tie as tie

@@ -1,43 +1,31 @@
 -- The definitions of Words are what their comments say: the value that each gives has the property, and no other value has it. Assumes nothing.
 use Rattle.std.specs.Prelude.{◌≡◌, refl, Bool, true, false, cond, ℕ, suc, zero, ◌+◌, ◌-◌, ◌*◌, ◌/◌, ◌%◌, ◌^◌, ◌<◌, ltb, ℤ, pos, negsuc, ◌+ℤ◌, ◌*ℤ◌, neg_ℤ}
-use Rattle.std.proofs.Common.{sym, ap, ◌∙◌, arith, div-add-mod', mod-lt, suc-mul, pow-suc, ltb-true, ltb-false, le-ltb, lt-ltb, eqb-true}
+use Rattle.std.proofs.Common.{sym, ap, ◌∙◌, arith, mod-lt, suc-mul, pow-suc, ltb-true, ltb-false, le-ltb, lt-ltb, eqb-true}
 use Rattle.std.proofs.Math.Nat.{div-eq_of_lt-le}
 use Rattle.std.proofs.Math.IntN.{sub_ℕ, suc_ℤ, suc_ℤ-*ℤ, +ℤ_comm, +ℤ_assoc}
 use Rattle.std.specs.Int.Count.{ones, ones_in, ones_step, ones-ones}
 use Rattle.std.specs.Int.{w32}
 use mir.Val.{SFits, of_z, sel}
 use mir.ValLaws.{to_z-Fits, to_z-of_z, of_z-to_z}
-use Rattle.words.specs.Congruence.{Congruent}
 use Rattle.words.specs.Words.{pattern_of, number_of, wrap, floor_div, ones_of, is_zero}
 
 -- ---- division rounded down
 
 -- a negative multiple of m plus a number below m
-negative-multiple : (a m r : ℕ) → r < m → negsuc a *ℤ pos m +ℤ pos r ≡ negsuc (suc a * m - suc r)
+pub negative-multiple : (a m r : ℕ) → r < m → negsuc a *ℤ pos m +ℤ pos r ≡ negsuc (suc a * m - suc r)
 negative-multiple a m r h =
     let e : suc a * m ≡ suc (a * m + m - 1) = omega (arith, suc-mul a m) in
     (λ i. neg_ℤ (pos (e i)) +ℤ pos r)
     ∙ simp (lt-ltb r (suc (a * m + m - 1)) (omega arith)) (ap negsuc (omega (arith, suc-mul a m)))
 
-remainder : ℤ → ℕ → ℕ
+unfoldable pub remainder : ℤ → ℕ → ℕ
 remainder (pos n) m = n % m
 remainder (negsuc n) m = (m - 1) - n % m
 
-division : (z : ℤ) (m : ℕ) → 0 < m → floor_div z m *ℤ pos m +ℤ pos (remainder z m) ≡ z
-unfolding floor_div remainder
-division (pos n) m h = ap pos (div-add-mod' n m)
-division (negsuc n) m h =
-    negative-multiple (n / m) m ((m - 1) - n % m) (omega arith)
-    ∙ ap negsuc (omega (arith, mod-lt n h, div-add-mod' n m, suc-mul (n / m) m))
-
-remainder-below : (z : ℤ) (m : ℕ) → 0 < m → remainder z m < m
+pub remainder-below : (z : ℤ) (m : ℕ) → 0 < m → remainder z m < m
 unfolding remainder
 remainder-below (pos n) m h = mod-lt n h
 remainder-below (negsuc n) m h = omega arith
-
--- the quotient leaves a remainder from 0 to m − 1
-pub floor_div-remainder : (z : ℤ) (m : ℕ) → 0 < m → (r : ℕ) × (r < m) × (floor_div z m *ℤ pos m +ℤ pos r ≡ z)
-floor_div-remainder z m h = (remainder z m, remainder-below z m h, division z m h)
 
 -- no other quotient leaves such a remainder
 pub floor_div-unique : (z q : ℤ) (m r : ℕ) → r < m → q *ℤ pos m +ℤ pos r ≡ z → q ≡ floor_div z m
@@ -50,21 +38,15 @@ floor_div-unique z (negsuc a) m r h e =
 
 -- ---- the pattern: the number modulo 2^32
 
+-- w and z are congruent modulo 2^32
+abbrev pub Congruent : ℤ → ℤ → Type 0
+Congruent w z = (k : ℤ) × (w +ℤ k *ℤ pos (2 ^ 32) ≡ z)
+
 -- a pattern is from 0 to 2^32 − 1
 pub pattern_of-range : (z : ℤ) → pattern_of z < 2 ^ 32
 unfolding pattern_of
 pattern_of-range (pos n) = omega arith
 pattern_of-range (negsuc n) = omega arith
-
-pattern-division : (z : ℤ) → floor_div z (2 ^ 32) *ℤ pos (2 ^ 32) +ℤ pos (pattern_of z) ≡ z
-unfolding pattern_of remainder
-pattern-division (pos n) = division (pos n) (2 ^ 32) (omega arith)
-pattern-division (negsuc n) = division (negsuc n) (2 ^ 32) (omega arith)
-
--- a pattern is congruent to its number
-pub pattern_of-congruent : (z : ℤ) → Congruent (pos (pattern_of z)) z
-pattern_of-congruent z =
-    (floor_div z (2 ^ 32), +ℤ_comm (pos (pattern_of z)) (floor_div z (2 ^ 32) *ℤ pos (2 ^ 32)) ∙ pattern-division z)
 
 pattern-difference : (a b : ℕ) → pattern_of (sub_ℕ a b) ≡ (a + (2 ^ 32 - b % 2 ^ 32)) % 2 ^ 32
 unfolding pattern_of
@@ -136,18 +118,13 @@ next_multiple w k m = +ℤ_comm w (suc_ℤ k *ℤ m) ∙ ap (λ y. y +ℤ w) (su
 above-negative : (n : ℕ) → n < 2 ^ 32 → pos (2 ^ 32) +ℤ negsuc (2 ^ 32 - suc n) ≡ pos n
 above-negative n h = simp (le-ltb (2 ^ 32) (suc (2 ^ 32 - suc n)) (omega arith)) (ap pos (omega arith))
 
-number-congruent : (z k : ℤ) (n : ℕ) → n < 2 ^ 32 → k *ℤ pos (2 ^ 32) +ℤ pos n ≡ z → Congruent (number_of n) z
+pub number-congruent : (z k : ℤ) (n : ℕ) → n < 2 ^ 32 → k *ℤ pos (2 ^ 32) +ℤ pos n ≡ z → Congruent (number_of n) z
 unfolding number_of
 number-congruent z k n h e = go (ltb n (2 ^ 31))
   where
     go : (t : Bool) → Congruent (sel t (pos n) (negsuc (2 ^ 32 - suc n))) z
     go true = (k, +ℤ_comm (pos n) (k *ℤ pos (2 ^ 32)) ∙ e)
     go false = (suc_ℤ k, next_multiple (negsuc (2 ^ 32 - suc n)) k (pos (2 ^ 32)) ∙ ap (λ y. k *ℤ pos (2 ^ 32) +ℤ y) (above-negative n h) ∙ e)
-
--- a wrapped number is congruent to the number
-pub wrap-congruent : (z : ℤ) → Congruent (wrap z) z
-unfolding wrap
-wrap-congruent z = number-congruent z (floor_div z (2 ^ 32)) (pattern_of z) (pattern_of-range z) (pattern-division z)
 
 -- a number from −2^31 to 2^31 − 1, wrapped, is itself
 pub wrap-itself : (z : ℤ) → SFits w32 z → wrap z ≡ z
