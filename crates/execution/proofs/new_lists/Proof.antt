@@ -8,12 +8,15 @@ use Rattle.execution.proofs.new_lists.Statement.{statement}
 use Rattle.execution.proofs.new_lists.Tie as tie
 
 returns : tie.Need-returns-in-Run
-returns c = (made-ran c.in-Run.is c.run_change.ensures.0, c.run_change.ensures.1)
+returns c =
+    let ran : tie.After-run_change = search in
+    (made-ran c.in-Run.is ran.run_change.ensures.0, ran.run_change.ensures.1)
 
 returns-2 : tie.Need-returns-in-Clear
 returns-2 c =
     let p = c.requires in
-    let n = c.new.ensures in
+    let begun : tie.After-new = search in
+    let n = begun.new.ensures in
     (made-cleared c.in-Clear.is p.1 (ap (λ (r : Run). r.reads) n) (ap (λ (r : Run). r.writes) n), looked-none p.2.right)
 
 returns-3 : tie.Need-returns-in-Stand
