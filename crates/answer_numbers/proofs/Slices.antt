@@ -6,8 +6,7 @@ use Prim.Native.Nat.{ℕ, ◌<◌, ◌≤◌}
 use native.Mathlib.Omega.{arith}
 use borrow.Author.Tests.{eq-eqb, ne_eqb}
 use lib.ListN.{length, set, drop}
-use Rattle.model.specs.declared.Turned.{Turned}
-use Rattle.model.specs.declared.Turned.TheVariants as turn-answer
+use Rattle.model.specs.Answers.{Turned}
 use Rattle.model.specs.Cabinet.{Cabinet}
 use Rattle.model.specs.Figure.{Step, idle, turned}
 use Rattle.model.specs.Form.{lengths_fit, in_form}
@@ -36,7 +35,7 @@ step_fits n T c (turned h view e) =
     by-event (λ (a : Turned). turned_number (turned_given a) < 256) (λ t. omega arith) (λ t. omega arith) (λ t. omega arith) (λ t place. omega arith) e
 
 -- its refusals are 1 and 2
-refused-fits : (a b : Bool) (T : Tables) (done : Reply Turned) → turned_number (turned_given done.answer) < 256 → turned_number (turned_given (unless (first_of (test 1 a ∷ test 2 b ∷ [])) turn-answer.Refused T done).answer) < 256
+refused-fits : (a b : Bool) (T : Tables) (done : Reply Turned) → turned_number (turned_given done.answer) < 256 → turned_number (turned_given (unless (first_of (test 1 a ∷ test 2 b ∷ [])) Turned.Refused T done).answer) < 256
 refused-fits true b T done h = omega arith
 refused-fits false true T done h = omega arith
 refused-fits false false T done h = h

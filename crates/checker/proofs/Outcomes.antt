@@ -6,9 +6,7 @@ use Prim.Native.Nat.{ℕ}
 use native.Mathlib.Omega.{arith}
 use borrow.Author.Tests.{eq-eqb, ne_eqb}
 use lib.ListN.{length, get_or}
-use Rattle.model.specs.declared.Answer.TheVariants as answer
-use Rattle.model.specs.declared.Turned.{Turned}
-use Rattle.model.specs.declared.Turned.TheVariants as turn-answer
+use Rattle.model.specs.Answers.{Answer, Turned}
 use Rattle.model.specs.Drain.{total_count, totals}
 use Rattle.model.specs.Cabinet.{with_history}
 use Rattle.model.specs.Tables.{Tables, tables, held_count, encode, decode}
@@ -32,17 +30,17 @@ with_held T held =
     tables held T.timestamps T.order T.status T.withdrawn T.lengths T.programs T.reads T.writes T.sources T.seen T.targets T.written T.view T.versions T.cutoff T.kept
 
 module _ (n : ℕ) (T : Tables) where
-  pub turn-fault : {r : ℕ} → r ≡ fault_of n T → (r ≡ 0 → ⊥) → reply (turn-answer.Refused r) T ≡ turn n T
+  pub turn-fault : {r : ℕ} → r ≡ fault_of n T → (r ≡ 0 → ⊥) → reply (Turned.Refused r) T ≡ turn n T
   unfolding turn
   turn-fault e f = rw (faulty n T e [] f, ne_eqb _ 0 f)
 
   module _ (lent : List ℕ) where
     -- another number of totals than 1,024 is lent
-    pub drain-wrong-length : (length lent ≡ total_count → ⊥) → totals_reply (answer.Refused 1) T lent ≡ drain_with_totals n T lent
+    pub drain-wrong-length : (length lent ≡ total_count → ⊥) → totals_reply (Answer.Refused 1) T lent ≡ drain_with_totals n T lent
     unfolding drain_with_totals
     drain-wrong-length h = rw (ne_eqb _ total_count h, and-false (lengths_fit n T))
 
-    pub drain-fault : length lent ≡ total_count → {r : ℕ} → r ≡ fault_of n T → (r ≡ 0 → ⊥) → totals_reply (answer.Refused r) T lent ≡ drain_with_totals n T lent
+    pub drain-fault : length lent ≡ total_count → {r : ℕ} → r ≡ fault_of n T → (r ≡ 0 → ⊥) → totals_reply (Answer.Refused r) T lent ≡ drain_with_totals n T lent
     unfolding drain_with_totals
     drain-fault sized e f = rw (eq-eqb _ total_count sized, and-true (lengths_fit n T), faulty n T e [] f, ne_eqb _ 0 f)
 
@@ -72,10 +70,10 @@ module _ (n : ℕ) (T : Tables) where
           rw (g.sized, g.form)
           (ap (reply a) (left-held q) ∙ e ∙ ap (λ (held : List ℕ). turns.turned (with_held T held)) counted-alone ∙ ap (λ (m : ℕ). step_reply m T (decode T) (round_of (decode T))) capacity)
 
-      pub drain-done : (lent : List ℕ) → length lent ≡ total_count → {counted : List ℕ} {left : Tables} → reply counted left ≡ drained (with_held T (count ∷ [])) → left.held ≡ (count ∷ []) → totals_reply answer.Done (with_held left T.held) counted ≡ drain_with_totals n T lent
+      pub drain-done : (lent : List ℕ) → length lent ≡ total_count → {counted : List ℕ} {left : Tables} → reply counted left ≡ drained (with_held T (count ∷ [])) → left.held ≡ (count ∷ []) → totals_reply Answer.Done (with_held left T.held) counted ≡ drain_with_totals n T lent
       unfolding drain drain_with_totals
       drain-done lent sized {counted} e q =
           rw (eq-eqb _ total_count sized, g.sized, g.form)
-          (ap (λ (U : Tables). totals_reply answer.Done U counted) (left-held q)
-          ∙ ap (λ (r : Reply (List ℕ)). totals_reply answer.Done r.tables r.answer) (e ∙ ap (λ (held : List ℕ). drained (with_held T held)) counted-alone)
-          ∙ ap (λ (m : ℕ). totals_reply answer.Done (encode m (with_history (decode T) (drain_of (decode T)).history (drain_of (decode T)).view)) (totals (drain_of (decode T)).events)) capacity)
+          (ap (λ (U : Tables). totals_reply Answer.Done U counted) (left-held q)
+          ∙ ap (λ (r : Reply (List ℕ)). totals_reply Answer.Done r.tables r.answer) (e ∙ ap (λ (held : List ℕ). drained (with_held T held)) counted-alone)
+          ∙ ap (λ (m : ℕ). totals_reply Answer.Done (encode m (with_history (decode T) (drain_of (decode T)).history (drain_of (decode T)).view)) (totals (drain_of (decode T)).events)) capacity)

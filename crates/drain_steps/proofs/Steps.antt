@@ -10,7 +10,7 @@ use borrow.Author.Count.{below_more}
 use borrow.Author.Tests.{eq-eqb, ne_eqb}
 use lib.IntN.{ℤ}
 use lib.ListN.{length, get_or}
-use Rattle.model.specs.declared.Turned.TheVariants as turn-answer
+use Rattle.model.specs.Answers.{Turned}
 use Rattle.model.specs.Tables.{Tables, held_count, slots, list_in}
 use Rattle.writers.specs.Writers.{WriteLists, OfSettings}
 use Rattle.search.specs.Searches.{is_waiting}
@@ -34,7 +34,7 @@ module _ {k : ℕ} {T : Tables} {known : List ℕ} {before after : List ℤ} {re
       {before' after' : List ℤ} →
       get_or T.status (get_or T.order k 0) 0 ≡ 1 →
       Carried (list_in T.writes T.targets T.written (get_or T.order k 0)) before after before' after' →
-      Passed turn-answer.Idle T T × Going (k + 1) T known before' after' readers writers settled
+      Passed Turned.Idle T T × Going (k + 1) T known before' after' readers writers settled
   pass-valid {before'} {after'} v c = (
     inl (refl, refl),
     record {

@@ -4,7 +4,7 @@ use mathlib.Core.List.{List}
 use Prim.Native.Nat.{ℕ, ◌+◌, ◌*◌, ◌<◌, ◌≤◌}
 use native.Mathlib.Omega.{arith}
 use lib.ListN.{length, set}
-use Rattle.model.specs.declared.Answer.{Answer}
+use Rattle.model.specs.Answers.{Answer}
 use Rattle.model.specs.Cabinet.{Cabinet}
 use Rattle.model.specs.Tables.{Tables, encode, decode}
 use Rattle.model.specs.Package.{Item, entry_count, entry_at, count_of, item_at}

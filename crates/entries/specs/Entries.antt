@@ -1,6 +1,6 @@
 -- What carrying out the entries of a package requires and leaves.
 use Rattle.std.specs.Prelude.{◌≡◌, true, List, ℕ, length}
-use Rattle.model.specs.declared.Answer.TheVariants as answer
+use Rattle.model.specs.Answers.{Answer}
 use Rattle.model.specs.Tables.{Tables}
 use Rattle.model.specs.Form.{Formed}
 use Rattle.model.specs.Package.{layout_fits}
@@ -15,4 +15,4 @@ pub record EntriesReady (bytes answers : List ℕ) (part : Tables → Tables) : 
 
 -- the answer bytes and the tables before and after: as the call on whole tables has them, whatever the others are
 pub record EntriesTaken (bytes answers answers' : List ℕ) (before after : Tables → Tables) : Type 0 where
-  pub taken : {n : ℕ} (T : Tables) → Formed n (before T) → package_reply answer.Done (after T) answers' ≡ take_in_package n (before T) bytes answers
+  pub taken : {n : ℕ} (T : Tables) → Formed n (before T) → package_reply Answer.Done (after T) answers' ≡ take_in_package n (before T) bytes answers

@@ -2,8 +2,7 @@
 use Rattle.std.specs.Prelude.{cond, List, [], ◌++◌, ℕ, eqb, ℤ}
 use Rattle.text.specs.Pieces.{ascii}
 use Rattle.text.specs.Decimal.{decimal, signed_decimal}
-use Rattle.model.specs.declared.Turned.{Turned}
-use Rattle.model.specs.declared.Turned.TheVariants as turn-answer
+use Rattle.model.specs.Answers.{Turned}
 use Rattle.model.specs.History.{eq_z}
 
 -- a package that is refused
@@ -26,12 +25,12 @@ turn_of timestamp done = ascii "turn " ++ decimal timestamp ++ done ++ ascii "\n
 
 -- a turn; an idle one has no line. Document 02, R-2: "`turn 10 faulted 2` where the third instruction broke off"
 abbrev pub turn_line : Turned → List ℕ
-turn_line turn-answer.Idle = []
-turn_line (turn-answer.Ran t) = turn_of t (ascii " ran")
-turn_line (turn-answer.Stood t) = turn_of t (ascii " stood")
-turn_line (turn-answer.Cleared t) = turn_of t (ascii " cleared")
-turn_line (turn-answer.Faulted t place) = turn_of t (ascii " faulted " ++ decimal place)
-turn_line (turn-answer.Refused r) = []
+turn_line Turned.Idle = []
+turn_line (Turned.Ran t) = turn_of t (ascii " ran")
+turn_line (Turned.Stood t) = turn_of t (ascii " stood")
+turn_line (Turned.Cleared t) = turn_of t (ascii " cleared")
+turn_line (Turned.Faulted t place) = turn_of t (ascii " faulted " ++ decimal place)
+turn_line (Turned.Refused r) = []
 
 -- a setting and its value; one at the value that it starts at has no line (document 02, R-1: "The program lists settings that differ from their start.")
 abbrev pub setting_line : ℕ → ℤ → ℤ → List ℕ

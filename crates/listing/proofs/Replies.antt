@@ -9,8 +9,7 @@ use lib.Dec.{eqb}
 use lib.ListN.{length}
 use Rattle.text.specs.Pieces.{Put}
 use Rattle.text.proofs.Pieces.{put_as}
-use Rattle.model.specs.declared.Answer.{Answer}
-use Rattle.model.specs.declared.Answer.TheVariants as answer
+use Rattle.model.specs.Answers.{Answer}
 use Rattle.model.specs.Tables.{Tables}
 use Rattle.model.specs.Form.{lengths_fit, Formed}
 use Rattle.model.specs.Package.{layout_fits}
@@ -26,7 +25,7 @@ laid_out : (T : Tables) (bytes lent : List ℕ) → Formed capacity T → length
 unfolding take_in_package
 laid_out T bytes lent g sized = rw (g.sized, g.form, eq-eqb (length lent) 512 sized) (go _ (layout_fits bytes))
   where
-    go : (done : PackageReply) (b : Bool) → answer_number (cond (eqb (cond (not b) 3 0) 0) done (package_reply (answer.Refused (cond (not b) 3 0)) T lent)).answer ≡ 0 → b ≡ true
+    go : (done : PackageReply) (b : Bool) → answer_number (cond (eqb (cond (not b) 3 0) 0) done (package_reply (Answer.Refused (cond (not b) 3 0)) T lent)).answer ≡ 0 → b ≡ true
     go done true z = refl
     go done false z = absurd (omega arith)
 

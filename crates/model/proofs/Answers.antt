@@ -1,8 +1,7 @@
 -- The answers of turns that are not idle.
 use Prim.Native.Nat.{ℕ}
 use Rattle.machine.specs.Run.{Ending, completed, faulted}
-use Rattle.model.specs.declared.Turned.{Turned}
-use Rattle.model.specs.declared.Turned.TheVariants.{Ran, Stood, Cleared, Faulted}
+use Rattle.model.specs.Answers.{Turned, Ran, Stood, Cleared, Faulted}
 use Rattle.model.specs.Figure.{Event, ran, stood, cleared}
 use Rattle.model.specs.Calls.{run_answer, event_answer}
 

@@ -11,8 +11,7 @@ use lib.ListN.{length}
 use Rattle.machine.specs.Instruction.{Code}
 use Rattle.machine.specs.Form.{length_fits, all_well_formed}
 use Rattle.general.proofs.Cases.{by-test, of-choice, impossible, both}
-use Rattle.model.specs.declared.Answer.{Answer}
-use Rattle.model.specs.declared.Answer.TheVariants as answer
+use Rattle.model.specs.Answers.{Answer}
 use Rattle.model.specs.History.{infinity, Change, change, History}
 use Rattle.model.specs.Walk.{insert}
 use Rattle.model.specs.Cabinet.{Cabinet, history_of, find}
@@ -44,20 +43,20 @@ none-applies (t ∷ tests) n e =
 -- ---- what the answer done tells
 
 -- a statement about what is done where the answer is done, and else about what is not
-pub by_answer : {X : Type 0} (P : X → Type 0) (a : Answer) {x y : X} → (a ≡ answer.Done → P x) → P y → P (if_done a x y)
-by_answer P answer.Done f k = f refl
-by_answer P answer.Held f k = k
-by_answer P (answer.Refused r) f k = k
+pub by_answer : {X : Type 0} (P : X → Type 0) (a : Answer) {x y : X} → (a ≡ Answer.Done → P x) → P y → P (if_done a x y)
+by_answer P Answer.Done f k = f refl
+by_answer P Answer.Held f k = k
+by_answer P (Answer.Refused r) f k = k
 
 pub of-answer : {X Y : Type 0} (f : X → Y) (a : Answer) {x y : X} {x' y' : Y} → f x ≡ x' → f y ≡ y' → f (if_done a x y) ≡ if_done a x' y'
-of-answer f answer.Done e e' = e
-of-answer f answer.Held e e' = e'
-of-answer f (answer.Refused r) e e' = e'
+of-answer f Answer.Done e e' = e
+of-answer f Answer.Held e e' = e'
+of-answer f (Answer.Refused r) e e' = e'
 
-done-accepted : (n : ℕ) (c : Cabinet) (i : Item) → item_answer n c i ≡ answer.Done → (item_refusal n c i ≡ 0) × (item_accepted c i ≡ answer.Done)
+done-accepted : (n : ℕ) (c : Cabinet) (i : Item) → item_answer n c i ≡ Answer.Done → (item_refusal n c i ≡ 0) × (item_accepted c i ≡ Answer.Done)
 unfolding item_answer
 done-accepted n c i e =
-    by-test (λ a. a ≡ answer.Done → (item_refusal n c i ≡ 0) × (item_accepted c i ≡ answer.Done)) (eqb (item_refusal n c i) 0)
+    by-test (λ a. a ≡ Answer.Done → (item_refusal n c i ≡ 0) × (item_accepted c i ≡ Answer.Done)) (eqb (item_refusal n c i) 0)
     (λ q d. (eqb-true (item_refusal n c i) 0 q, d))
     (λ q d. impossible (cc)) e
 
@@ -72,11 +71,11 @@ pub record TakingDone (n : ℕ) (c : Cabinet) (t : ℕ) (p : Code) : Type 0 wher
   pub not-held : find t (history_of c) ≡ none
   pub room : length c.changes < n
 
-not-held-none : (found : Option Change) → cond (is_held found) answer.Held answer.Done ≡ answer.Done → found ≡ none
+not-held-none : (found : Option Change) → cond (is_held found) Answer.Held Answer.Done ≡ Answer.Done → found ≡ none
 not-held-none none e = refl
 not-held-none (some u) e = cc
 
-pub taking-done : (n : ℕ) (c : Cabinet) (t : ℕ) (p : Code) → item_answer n c (taking t p) ≡ answer.Done → TakingDone n c t p
+pub taking-done : (n : ℕ) (c : Cabinet) (t : ℕ) (p : Code) → item_answer n c (taking t p) ≡ Answer.Done → TakingDone n c t p
 taking-done n c t p e =
     let accepted = done-accepted n c (taking t p) e in
     let z = none-applies (no_timestamp t ∷ below_cutoff c.cutoff t ∷ wrong_program_length p ∷ no_version p ∷ malformed p ∷ held_otherwise c t p ∷ full n c t ∷ []) (omega arith) accepted.0 in

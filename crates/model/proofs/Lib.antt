@@ -2,6 +2,7 @@ pub mod Totals
 pub mod Values
 pub mod Start
 pub mod Answers
+pub mod Answered
 pub mod Programs
 pub mod Sound
 pub mod Order

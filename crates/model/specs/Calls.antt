@@ -5,16 +5,7 @@ use Rattle.start_values.specs.StartValues.{start_table}
 use Rattle.machine.specs.Settings.{setting_count, value_in}
 use Rattle.machine.specs.Instruction.{Code}
 use Rattle.machine.specs.Run.{Ending, completed, faulted}
-use Rattle.model.specs.declared.Answer.{Answer}
-use Rattle.model.specs.declared.Answer.TheVariants as answer
-use Rattle.model.specs.declared.Turned.{Turned}
-use Rattle.model.specs.declared.Turned.TheVariants as turn-answer
-use Rattle.model.specs.declared.Value.{Value}
-use Rattle.model.specs.declared.Value.TheVariants as value-answer
-use Rattle.model.specs.declared.Standing.{Standing}
-use Rattle.model.specs.declared.Standing.TheVariants as standing-answer
-use Rattle.model.specs.declared.Packed.{Packed}
-use Rattle.model.specs.declared.Packed.TheVariants as packed-answer
+use Rattle.model.specs.Answers.{Answer, Turned, Value, Standing, Packed}
 use Rattle.model.specs.History.{Change, status, withdrawn, as_of, all_settings}
 use Rattle.model.specs.Figure.{Event, ran, stood, cleared, Step, idle, turned, round}
 use Rattle.model.specs.Drain.{Drain, drain_history, total_count, totals}
@@ -33,33 +24,33 @@ pub data Given : Type 0 where
 
 -- 0 done, 255 already held
 abbrev pub answer_given : Answer → Given
-answer_given answer.Done = given 0 []
-answer_given answer.Held = given 255 []
-answer_given (answer.Refused r) = refused r
+answer_given Answer.Done = given 0 []
+answer_given Answer.Held = given 255 []
+answer_given (Answer.Refused r) = refused r
 
 -- idle, ran, stood, cleared and faulted in this order from 0; all but idle name the change's timestamp, and faulted the place too (document 02, R-2)
 abbrev pub turned_given : Turned → Given
-turned_given turn-answer.Idle = given 0 []
-turned_given (turn-answer.Ran t) = given 1 (pos t ∷ [])
-turned_given (turn-answer.Stood t) = given 2 (pos t ∷ [])
-turned_given (turn-answer.Cleared t) = given 3 (pos t ∷ [])
-turned_given (turn-answer.Faulted t place) = given 4 (pos t ∷ pos place ∷ [])
-turned_given (turn-answer.Refused r) = refused r
+turned_given Turned.Idle = given 0 []
+turned_given (Turned.Ran t) = given 1 (pos t ∷ [])
+turned_given (Turned.Stood t) = given 2 (pos t ∷ [])
+turned_given (Turned.Cleared t) = given 3 (pos t ∷ [])
+turned_given (Turned.Faulted t place) = given 4 (pos t ∷ pos place ∷ [])
+turned_given (Turned.Refused r) = refused r
 
 -- a value
 abbrev pub value_given : Value → Given
-value_given (value-answer.Is v) = given 0 (v ∷ [])
-value_given (value-answer.Refused r) = refused r
+value_given (Value.Is v) = given 0 (v ∷ [])
+value_given (Value.Refused r) = refused r
 
 -- status and flag
 abbrev pub standing_given : Standing → Given
-standing_given (standing-answer.At s f) = given 0 (pos s ∷ pos f ∷ [])
-standing_given (standing-answer.Refused r) = refused r
+standing_given (Standing.At s f) = given 0 (pos s ∷ pos f ∷ [])
+standing_given (Standing.Refused r) = refused r
 
 -- the length of the package
 abbrev pub packed_given : Packed → Given
-packed_given (packed-answer.Length size) = given 0 (pos size ∷ [])
-packed_given (packed-answer.Refused r) = refused r
+packed_given (Packed.Length size) = given 0 (pos size ∷ [])
+packed_given (Packed.Refused r) = refused r
 
 -- the number of a refusal or of a case
 abbrev pub number_given : Given → ℕ
@@ -93,8 +84,8 @@ unless_read r refusal done = cond (eqb r 0) done (refusal r)
 -- every table to 0, the view and the kept values to the start
 unfoldable pub set_up : ℕ → Tables → Reply Answer
 set_up n T =
-    unless (first_of (wrong_lengths n T ∷ [])) answer.Refused T
-    (record { answer = answer.Done; tables = encode n empty_cabinet })
+    unless (first_of (wrong_lengths n T ∷ [])) Answer.Refused T
+    (record { answer = Answer.Done; tables = encode n empty_cabinet })
 
 -- ---- take in, withdraw, take in a package
 
@@ -106,11 +97,11 @@ item_refusal n c (withdrawing t) = first_of (no_timestamp t ∷ below_cutoff c.c
 
 -- its answer, where it is not refused: the same timestamp with the same program is held already
 abbrev pub item_accepted : Cabinet → Item → Answer
-item_accepted c (taking t p) = cond (is_held (find t (history_of c))) answer.Held answer.Done
-item_accepted c (withdrawing t) = answer.Done
+item_accepted c (taking t p) = cond (is_held (find t (history_of c))) Answer.Held Answer.Done
+item_accepted c (withdrawing t) = Answer.Done
 
 unfoldable pub item_answer : ℕ → Cabinet → Item → Answer
-item_answer n c i = unless_read (item_refusal n c i) answer.Refused (item_accepted c i)
+item_answer n c i = unless_read (item_refusal n c i) Answer.Refused (item_accepted c i)
 
 -- what it does, where it is answered done
 abbrev pub item_done : Cabinet → Item → Cabinet
@@ -119,14 +110,14 @@ item_done c (withdrawing t) = remove t c
 
 -- one thing if the answer is done, and another if not
 abbrev pub if_done : {A : Type 0} → Answer → A → A → A
-if_done answer.Done x y = x
-if_done answer.Held x y = y
-if_done (answer.Refused r) x y = y
+if_done Answer.Done x y = x
+if_done Answer.Held x y = y
+if_done (Answer.Refused r) x y = y
 
 abbrev pub item_call : ℕ → Tables → Item → Reply Answer
 item_call n T i =
     let c = decode T in
-    unless (fault_of n T) answer.Refused T
+    unless (fault_of n T) Answer.Refused T
     (record { answer = item_answer n c i; tables = if_done (item_answer n c i) (encode n (item_done c i)) T })
 
 unfoldable pub take_in : ℕ → Tables → ℕ → Code → Reply Answer
@@ -163,11 +154,11 @@ take_in_package n T bytes answers =
     let r = first_of (wrong_length n T (length answers) 512 ∷ not_in_form n T ∷ test 3 (not (layout_fits bytes)) ∷ []) in
     cond (eqb r 0)
     (record {
-      answer = answer.Done;
+      answer = Answer.Done;
       tables = encode n (item_steps n c items);
       answers = map answer_number (item_answers n c items) ++ drop (length items) answers;
     })
-    (record { answer = answer.Refused r; tables = T; answers = answers })
+    (record { answer = Answer.Refused r; tables = T; answers = answers })
 
 -- ---- cutoff
 
@@ -175,23 +166,23 @@ take_in_package n T bytes answers =
 unfoldable pub raise_cutoff : ℕ → Tables → ℕ → Reply Answer
 raise_cutoff n T t =
     let c = decode T in
-    unless (first_of (wrong_lengths n T ∷ not_in_form n T ∷ no_timestamp t ∷ below_cutoff c.cutoff t ∷ unsettled_below c t ∷ [])) answer.Refused T
-    (record { answer = answer.Done; tables = encode n (cut_at t c) })
+    unless (first_of (wrong_lengths n T ∷ not_in_form n T ∷ no_timestamp t ∷ below_cutoff c.cutoff t ∷ unsettled_below c t ∷ [])) Answer.Refused T
+    (record { answer = Answer.Done; tables = encode n (cut_at t c) })
 
 -- ---- turn, drain
 
 -- document 02, R-2: "A turn answers faulted with the place instead of ran in that case"; the place is that of the instruction that broke off, from 0
 abbrev pub run_answer : ℕ → Ending → Turned
-run_answer t completed = turn-answer.Ran t
-run_answer t (faulted fault place) = turn-answer.Faulted t place
+run_answer t completed = Turned.Ran t
+run_answer t (faulted fault place) = Turned.Faulted t place
 
 abbrev pub event_answer : Event → Turned
 event_answer (ran t o) = run_answer t o.ending
-event_answer (stood t) = turn-answer.Stood t
-event_answer (cleared t) = turn-answer.Cleared t
+event_answer (stood t) = Turned.Stood t
+event_answer (cleared t) = Turned.Cleared t
 
 abbrev pub step_reply : ℕ → Tables → Cabinet → Step → Reply Turned
-step_reply n T c idle = record { answer = turn-answer.Idle; tables = T }
+step_reply n T c idle = record { answer = Turned.Idle; tables = T }
 step_reply n T c (turned h view e) = record { answer = event_answer e; tables = encode n (with_history c h view) }
 
 -- the round of a cabinet
@@ -200,7 +191,7 @@ round_of c = round (kept_values_in c) (history_of c) c.view
 
 unfoldable pub turn : ℕ → Tables → Reply Turned
 turn n T =
-    unless (fault_of n T) turn-answer.Refused T
+    unless (fault_of n T) Turned.Refused T
     (step_reply n T (decode T) (round_of (decode T)))
 
 abbrev pub drain_of : Cabinet → Drain
@@ -211,8 +202,8 @@ unfoldable pub drain : ℕ → Tables → Reply Answer
 drain n T =
     let c = decode T in
     let d = drain_of c in
-    unless (fault_of n T) answer.Refused T
-    (record { answer = answer.Done; tables = encode n (with_history c d.history d.view) })
+    unless (fault_of n T) Answer.Refused T
+    (record { answer = Answer.Done; tables = encode n (with_history c d.history d.view) })
 
 -- the call's reply also has the lent slice of 1,024 totals
 pub record TotalsReply : Type 0 where
@@ -227,31 +218,31 @@ totals_reply a T totals = record { answer = a; tables = T; totals = totals }
 unfoldable pub drain_with_totals : ℕ → Tables → List ℕ → TotalsReply
 drain_with_totals n T lent =
     let r = first_of (wrong_length n T (length lent) total_count ∷ not_in_form n T ∷ []) in
-    cond (eqb r 0) (record { answer = answer.Done; tables = (drain n T).tables; totals = totals (drain_of (decode T)).events })
-    (record { answer = answer.Refused r; tables = T; totals = lent })
+    cond (eqb r 0) (record { answer = Answer.Done; tables = (drain n T).tables; totals = totals (drain_of (decode T)).events })
+    (record { answer = Answer.Refused r; tables = T; totals = lent })
 
 -- ---- the calls that only read
 
 -- from the view
 unfoldable pub current_value : ℕ → Tables → ℕ → Value
 current_value n T s =
-    unless_read (first_of (wrong_lengths n T ∷ not_in_form n T ∷ no_setting s ∷ [])) value-answer.Refused
-    (value-answer.Is (value_in T.view s))
+    unless_read (first_of (wrong_lengths n T ∷ not_in_form n T ∷ no_setting s ∷ [])) Value.Refused
+    (Value.Is (value_in T.view s))
 
 -- the highest write stamped below it, else the kept value
 unfoldable pub value_as_of : ℕ → Tables → ℕ → ℕ → Value
 value_as_of n T t s =
-    unless_read (first_of (wrong_lengths n T ∷ not_in_form n T ∷ no_time t ∷ below_cutoff (cutoff_in T) t ∷ no_setting s ∷ [])) value-answer.Refused
-    (value-answer.Is (as_of t (history_of (decode T)) (kept_values_in (decode T)) s))
+    unless_read (first_of (wrong_lengths n T ∷ not_in_form n T ∷ no_time t ∷ below_cutoff (cutoff_in T) t ∷ no_setting s ∷ [])) Value.Refused
+    (Value.Is (as_of t (history_of (decode T)) (kept_values_in (decode T)) s))
 
 -- status and flag
 abbrev pub standing_of : Option Change → Standing
-standing_of none = standing-answer.At 0 0
-standing_of (some c) = standing-answer.At (status_number (status c)) (flag_number (withdrawn c))
+standing_of none = Standing.At 0 0
+standing_of (some c) = Standing.At (status_number (status c)) (flag_number (withdrawn c))
 
 unfoldable pub standing : ℕ → Tables → ℕ → Standing
 standing n T t =
-    unless_read (first_of (wrong_lengths n T ∷ not_in_form n T ∷ no_timestamp t ∷ below_cutoff (cutoff_in T) t ∷ not_held (decode T) t ∷ [])) standing-answer.Refused
+    unless_read (first_of (wrong_lengths n T ∷ not_in_form n T ∷ no_timestamp t ∷ below_cutoff (cutoff_in T) t ∷ not_held (decode T) t ∷ [])) Standing.Refused
     (standing_of (find t (history_of (decode T))))
 
 -- a plain run's reply has the lent slice of 1,024 settings: what all held changes leave, run in timestamp order, withdrawn ones passed over
@@ -265,8 +256,8 @@ plain_reply a settings = record { answer = a; settings = settings }
 unfoldable pub plain_run : ℕ → Tables → List ℤ → PlainReply
 plain_run n T settings =
     let r = first_of (wrong_length n T (length settings) setting_count ∷ not_in_form n T ∷ []) in
-    cond (eqb r 0) (record { answer = answer.Done; settings = all_settings (fresh_end (book_of (history_of (decode T))) (kept_values_in (decode T))) })
-    (record { answer = answer.Refused r; settings = settings })
+    cond (eqb r 0) (record { answer = Answer.Done; settings = all_settings (fresh_end (book_of (history_of (decode T))) (kept_values_in (decode T))) })
+    (record { answer = Answer.Refused r; settings = settings })
 
 -- ---- package out
 
@@ -288,8 +279,8 @@ package_out n T bytes =
     let items = held_items_of T in
     let written = package_of items in
     let r = first_of (wrong_lengths n T ∷ not_in_form n T ∷ no_room (length items) (length written) (length bytes) ∷ []) in
-    cond (eqb r 0) (record { answer = packed-answer.Length (length written); bytes = written ++ drop (length written) bytes })
-    (record { answer = packed-answer.Refused r; bytes = bytes })
+    cond (eqb r 0) (record { answer = Packed.Length (length written); bytes = written ++ drop (length written) bytes })
+    (record { answer = Packed.Refused r; bytes = bytes })
 
 -- ---- the start values
 
@@ -297,5 +288,5 @@ package_out n T bytes =
 unfoldable pub start_values : List ℤ → PlainReply
 start_values settings =
     let r = first_of (test 1 (not (eqb (length settings) setting_count)) ∷ []) in
-    cond (eqb r 0) (record { answer = answer.Done; settings = start_table })
-    (record { answer = answer.Refused r; settings = settings })
+    cond (eqb r 0) (record { answer = Answer.Done; settings = start_table })
+    (record { answer = Answer.Refused r; settings = settings })

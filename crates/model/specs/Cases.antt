@@ -9,17 +9,7 @@ use Rattle.general.specs.Lists.{all_below}
 use Rattle.machine.specs.Form.{is_well_formed, length_fits, all_well_formed}
 use Rattle.machine.specs.Run.{effect, shift_right, enter, load, store, perform, step, run_from, run_program, run}
 use Rattle.machine.specs.Examples.{instruction, constant, reading, writing}
-use Rattle.model.specs.declared.Answer.{Answer}
-use Rattle.model.specs.declared.Answer.TheVariants.{Done, Held, Refused}
-use Rattle.model.specs.declared.Turned.{Turned}
-use Rattle.model.specs.declared.Turned.TheVariants.{Ran, Stood, Cleared, Faulted}
-use Rattle.model.specs.declared.Value.{Value}
-use Rattle.model.specs.declared.Value.TheVariants.{Is}
-use Rattle.model.specs.declared.Value.TheVariants as value-answer
-use Rattle.model.specs.declared.Standing.{Standing}
-use Rattle.model.specs.declared.Standing.TheVariants.{At}
-use Rattle.model.specs.declared.Standing.TheVariants as standing-answer
-use Rattle.model.specs.declared.Packed.TheVariants as packed-answer
+use Rattle.model.specs.Answers.{Answer, Done, Held, Turned, Ran, Stood, Cleared, Faulted, Value, Is, Standing, At, Packed}
 use Rattle.model.specs.History.{start, run_lists}
 use Rattle.model.specs.Figure.{round}
 use Rattle.model.specs.Drain.{drain_for, drain_history, total_count, totals}
@@ -185,7 +175,7 @@ P8 =
           current 34 (Is (pos 1))
           ∷ current 40 (Is (pos 0))
           ∷ stands 10 (At 1 1)
-          ∷ packs 58 (packed_reply (packed-answer.Length 58) (2 ∷ 0 ∷ (listed 10 0 4 ++ listed 10 1 0 ++ bytes_of (sets 34 (pos 7) ++ sets 40 (pos 3)))))
+          ∷ packs 58 (packed_reply (Packed.Length 58) (2 ∷ 0 ∷ (listed 10 0 4 ++ listed 10 1 0 ++ bytes_of (sets 34 (pos 7) ++ sets 40 (pos 3)))))
           ∷ [];
     }
 
@@ -256,8 +246,8 @@ sample-package =
       facts =
           current 34 (Is (pos 7))
           ∷ current 50 (Is (pos 7))
-          ∷ packs 60 (packed_reply (packed-answer.Length 58) (2 ∷ 0 ∷ (listed 10 0 2 ++ listed 20 0 2 ++ bytes_of (sets 34 (pos 7) ++ copies 34 50) ++ (0 ∷ 0 ∷ []))))
-          ∷ packs 57 (packed_reply (packed-answer.Refused 12) (replicate 57 0))
+          ∷ packs 60 (packed_reply (Packed.Length 58) (2 ∷ 0 ∷ (listed 10 0 2 ++ listed 20 0 2 ++ bytes_of (sets 34 (pos 7) ++ copies 34 50) ++ (0 ∷ 0 ∷ []))))
+          ∷ packs 57 (packed_reply (Packed.Refused 12) (replicate 57 0))
           ∷ [];
     }
 
@@ -287,11 +277,11 @@ own-writes =
           ∷ current 50 (Is (pos 401))
           ∷ as_of 20 36 (Is (pos 7))
           ∷ takes 1 20 reads_back Held
-          ∷ takes 0 20 reads_back (Refused 8)
-          ∷ takes 2 20 reads_back (Refused 13)
-          ∷ takes 2 20 (instruction 18 0 0 0 (pos 0) ∷ []) (Refused 13)
-          ∷ takes 2 20 (replicate 33 (instruction 0 0 0 0 (pos 0))) (Refused 6)
-          ∷ packs 106 (packed_reply (packed-answer.Length 106) (2 ∷ 0 ∷ (listed 10 0 2 ++ listed_by 1 20 0 8 ++ bytes_of (sets 36 (pos 7) ++ reads_back))))
+          ∷ takes 0 20 reads_back (Answer.Refused 8)
+          ∷ takes 2 20 reads_back (Answer.Refused 13)
+          ∷ takes 2 20 (instruction 18 0 0 0 (pos 0) ∷ []) (Answer.Refused 13)
+          ∷ takes 2 20 (replicate 33 (instruction 0 0 0 0 (pos 0))) (Answer.Refused 6)
+          ∷ packs 106 (packed_reply (Packed.Length 106) (2 ∷ 0 ∷ (listed 10 0 2 ++ listed_by 1 20 0 8 ++ bytes_of (sets 36 (pos 7) ++ reads_back))))
           ∷ [];
     }
 
@@ -329,7 +319,7 @@ cut_off =
           ∷ takes_in 20 (subtracts 36 (pos 300))
           ∷ drains_running (10 ∷ 20 ∷ 30 ∷ 40 ∷ [])
           ∷ withdraws 20
-          ∷ cuts 30 (Refused 15)
+          ∷ cuts 30 (Answer.Refused 15)
           ∷ drains (Cleared 20 ∷ Ran 40 ∷ []) (counted ((82, 1) ∷ (160, 1) ∷ []))
           ∷ cuts 30 Done
           ∷ takes_in 35 (adds 36 (pos 50))
@@ -342,13 +332,13 @@ cut_off =
           ∷ as_of 36 36 (Is (pos 450))
           ∷ as_of 30 34 (Is (pos 1))
           ∷ as_of 31 34 (Is (pos 5))
-          ∷ as_of 29 36 (value-answer.Refused 14)
+          ∷ as_of 29 36 (Value.Refused 14)
           ∷ stands 30 (At 1 0)
-          ∷ stands 20 (standing-answer.Refused 14)
-          ∷ takes 0 29 [] (Refused 14)
-          ∷ takes 0 0 [] (Refused 4)
-          ∷ takes 2 29 [] (Refused 14)
-          ∷ cut 29 (Refused 14)
+          ∷ stands 20 (Standing.Refused 14)
+          ∷ takes 0 29 [] (Answer.Refused 14)
+          ∷ takes 0 0 [] (Answer.Refused 4)
+          ∷ takes 2 29 [] (Answer.Refused 14)
+          ∷ cut 29 (Answer.Refused 14)
           ∷ cut 30 Done
           ∷ [];
     }
@@ -368,7 +358,7 @@ cut_again =
           ∷ [];
       turned = Ran 50 ∷ [];
       answer = counted ((200, 1) ∷ []);
-      facts = current 50 (Is (pos 401)) ∷ as_of 40 36 (Is (pos 401)) ∷ cut 20 (Refused 14) ∷ [];
+      facts = current 50 (Is (pos 401)) ∷ as_of 40 36 (Is (pos 401)) ∷ cut 20 (Answer.Refused 14) ∷ [];
     }
 
 cases : List Case

@@ -7,6 +7,7 @@ pub mod Form
 pub mod Refusals
 pub mod Package
 pub mod Book
+pub mod Answers
 pub mod Calls
 pub mod Log
 pub mod Walk

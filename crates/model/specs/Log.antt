@@ -6,7 +6,7 @@ use Rattle.model.specs.Tables.{Tables, decode}
 use Rattle.model.specs.Refusals.{fault_of}
 use Rattle.model.specs.Package.{Item, taking, withdrawing, items_of}
 use Rattle.model.specs.Book.{Book, enter, strike, book_below, book_from}
-use Rattle.model.specs.declared.Turned.{Turned}
+use Rattle.model.specs.Answers.{Turned}
 use Rattle.model.specs.Calls.{answer_number, if_done, event_answer, take_in, withdraw, take_in_package, raise_cutoff, turn, drain_with_totals, round_of, drain_of}
 
 -- the calls that may alter the tables, each with its further arguments as the caller passes them

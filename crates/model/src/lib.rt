@@ -1,49 +1,64 @@
-// The types of the calls' answers. A refusal is given by its number in document 01, "Turned down, in checking order".
+// The types of the calls' answers.
 #![tactic(auto)]
 
-// Set up, take in, withdraw, take in a package, drain, plain run, start values.
-#[derive(Drop)]
-#[derive(Clone, Copy)]
-pub enum Answer {
+ghost use Rattle.std.specs.Prelude.{◌≡◌};
+ghost use Rattle.model.specs.Answers.{refusal_number};
+
+// Why a call is turned down: document 01, "Turned down, in checking order".
+#[derive(Clone, Copy, Debug, PartialEq, Eq, Drop)]
+pub enum Refusal {
+    WrongLengths = 1,
+    NotInForm = 2,
+    // A package's layout is wrong.
+    NotLaidOut = 3,
+    NoTimestamp = 4,
+    NoSetting = 5,
+    WrongProgramLength = 6,
+    Malformed = 7,
+    // The timestamp is held with another program.
+    HeldOtherwise = 8,
+    Full = 9,
+    NotHeld = 10,
+    WithdrawnAlready = 11,
+    // A package would pass its own limits or the lent slice.
+    NoRoom = 12,
+    NoVersion = 13,
+    BelowCutoff = 14,
+    // A change below a new cutoff is New or Invalid.
+    UnsettledBelow = 15,
+}
+
+// Its number in document 01.
+impl From<Refusal> for u8 {
+    ghost from_gives = { λ refusal number. number ≡ refusal_number refusal };
+
+    fn from(refusal: Refusal) -> u8 {
+        refusal as u8
+    }
+}
+
+// What taking in answers where it is not refused.
+#[derive(Clone, Copy, Debug, PartialEq, Eq, Drop)]
+pub enum Outcome {
     Done,
     // The same timestamp is held with the same program.
     Held,
-    Refused(u8),
 }
 
 // A turn: idle, or what was done with the change of a timestamp.
-#[derive(Drop)]
-#[derive(Clone, Copy)]
-pub enum Turned {
+#[derive(Clone, Copy, Debug, PartialEq, Eq, Drop)]
+pub enum Turn {
     Idle,
     Ran(u64),
     Stood(u64),
     Cleared(u64),
     // Its run broke off at this place, counted from 0.
     Faulted(u64, usize),
-    Refused(u8),
 }
 
-// Current value, value as of a timestamp.
-#[derive(Drop)]
-#[derive(Clone, Copy)]
-pub enum Value {
-    Is(i32),
-    Refused(u8),
-}
-
-// The standing of a timestamp: status and flag.
-#[derive(Drop)]
-#[derive(Clone, Copy)]
-pub enum Standing {
-    At(u16, u16),
-    Refused(u8),
-}
-
-// Package out: the length of what is written.
-#[derive(Drop)]
-#[derive(Clone, Copy)]
-pub enum Packed {
-    Length(u16),
-    Refused(u8),
+// The standing of a timestamp: status and flag, as the tables have them.
+#[derive(Clone, Copy, Debug, PartialEq, Eq, Drop)]
+pub struct Standing {
+    pub status: u16,
+    pub withdrawn: u16,
 }

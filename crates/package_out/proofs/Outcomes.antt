@@ -4,7 +4,7 @@ use mathlib.Core.List.{List, [], ◌∷◌}
 use Prim.Native.Nat.{ℕ}
 use borrow.Author.Tests.{ne_eqb}
 use lib.ListN.{length}
-use Rattle.model.specs.declared.Packed.TheVariants as packed-answer
+use Rattle.model.specs.Answers.{Packed}
 use Rattle.model.specs.Tables.{Tables, held_count}
 use Rattle.model.specs.Form.{Formed}
 use Rattle.model.specs.Refusals.{no_room, fault_of}
@@ -15,7 +15,7 @@ use Rattle.packing.proofs.Model.{entries-are, package-is}
 use Rattle.tables.proofs.Faults.{faulty, formed-first}
 
 module _ (n : ℕ) (T : Tables) (bytes : List ℕ) where
-  pub out-fault : {r : ℕ} → r ≡ fault_of n T → (r ≡ 0 → ⊥) → packed_reply (packed-answer.Refused r) bytes ≡ package_out n T bytes
+  pub out-fault : {r : ℕ} → r ≡ fault_of n T → (r ≡ 0 → ⊥) → packed_reply (Packed.Refused r) bytes ≡ package_out n T bytes
   unfolding package_out
   out-fault e f = rw (faulty n T e (no_room (length (held_items_of T)) (length (package_of (held_items_of T))) (length bytes) ∷ []) f, ne_eqb _ 0 f)
 

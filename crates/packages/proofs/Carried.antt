@@ -6,7 +6,7 @@ use native.Mathlib.Numerals.{add-one}
 use native.Mathlib.Omega.{arith}
 use lib.ListN.{length, get_or, set, take, drop, length-append, length-drop, length-map}
 use lib.Seq.{length-take-le, drop-cons, append_snoc, set_at}
-use Rattle.model.specs.declared.Answer.{Answer}
+use Rattle.model.specs.Answers.{Answer}
 use Rattle.model.specs.Cabinet.{Cabinet}
 use Rattle.model.specs.Tables.{Tables, encode, decode}
 use Rattle.model.specs.Package.{Item, entry_count, entry_at, count_of, body_at, item_at, items_of}

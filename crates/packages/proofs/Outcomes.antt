@@ -8,7 +8,7 @@ use borrow.Author.Tests.{eq-eqb, ne_eqb, eqb-true, eqb-false}
 use lib.Dec.{eqb}
 use lib.ListN.{length}
 use Rattle.general.proofs.Cases.{by-test}
-use Rattle.model.specs.declared.Answer.TheVariants as answer
+use Rattle.model.specs.Answers.{Answer}
 use Rattle.model.specs.Tables.{Tables, decode}
 use Rattle.model.specs.Form.{lengths_fit, in_form, Formed}
 use Rattle.model.specs.Refusals.{fault_of}
@@ -37,17 +37,17 @@ none-refused fault bytes e z =
 
 module _ (n : ℕ) (T : Tables) (bytes lent : List ℕ) where
   -- the answer bytes have another length than 512
-  pub package-wrong-length : (length lent ≡ 512 → ⊥) → package_reply (answer.Refused 1) T lent ≡ take_in_package n T bytes lent
+  pub package-wrong-length : (length lent ≡ 512 → ⊥) → package_reply (Answer.Refused 1) T lent ≡ take_in_package n T bytes lent
   unfolding take_in_package
   package-wrong-length h = rw (ne_eqb _ 512 h, and-false (lengths_fit n T))
 
   module _ (sized : length lent ≡ 512) where
     -- the tables or the package are refused
-    pub package-refused : {r : ℕ} → r ≡ refusal_with (fault_of n T) bytes → (r ≡ 0 → ⊥) → package_reply (answer.Refused r) T lent ≡ take_in_package n T bytes lent
+    pub package-refused : {r : ℕ} → r ≡ refusal_with (fault_of n T) bytes → (r ≡ 0 → ⊥) → package_reply (Answer.Refused r) T lent ≡ take_in_package n T bytes lent
     unfolding take_in_package
     package-refused e f = rw (eq-eqb _ 512 sized, and-true (lengths_fit n T), sym (in_order (lengths_fit n T) (in_form n T) (layout_fits bytes)) ∙ sym e, ne_eqb _ 0 f)
 
     -- every entry is carried out
-    pub package-done : {j body : ℕ} {U : Tables} {answers : List ℕ} → Formed n T → layout_fits bytes ≡ true → entry_count bytes ≤ j → Carried n (decode T) bytes lent j body U answers → package_reply answer.Done U answers ≡ take_in_package n T bytes lent
+    pub package-done : {j body : ℕ} {U : Tables} {answers : List ℕ} → Formed n T → layout_fits bytes ≡ true → entry_count bytes ≤ j → Carried n (decode T) bytes lent j body U answers → package_reply Answer.Done U answers ≡ take_in_package n T bytes lent
     unfolding take_in_package
-    package-done g e h k = rw (eq-eqb _ 512 sized, g.sized, g.form, e) (ap₂ (package_reply answer.Done) (carried-tables k h) (carried-answers k h))
+    package-done g e h k = rw (eq-eqb _ 512 sized, g.sized, g.form, e) (ap₂ (package_reply Answer.Done) (carried-tables k h) (carried-answers k h))

@@ -10,7 +10,7 @@ use lib.ListN.{length, drop, length-append}
 use Rattle.general.proofs.Cases.{both}
 use Rattle.text.specs.Pieces.{with_piece, Put, pieces_below}
 use Rattle.text.proofs.Pieces.{put_as, put_then}
-use Rattle.model.specs.declared.Packed.TheVariants as packed-answer
+use Rattle.model.specs.Answers.{Packed}
 use Rattle.model.specs.Package.{number_bytes}
 use Rattle.model.specs.Calls.{packed_reply}
 use Rattle.package_parts.specs.Parts.{total_of, change_entry, withdrawal_entry, body_in}
@@ -46,7 +46,7 @@ module _ {count : ℕ} {order timestamps withdrawn lengths programs versions : L
       )
 
   module _ (bytes : List ℕ) {entries size : ℕ} (e : entries ≡ entries_in order withdrawn count) (s : size ≡ length (package_in order timestamps withdrawn lengths programs versions count)) where
-    pub packed-refused : (leb entries 512 && leb size 65535 && leb size (length bytes)) ≡ false → packed_reply (packed-answer.Refused 12) bytes ≡ packed_in order timestamps withdrawn lengths programs versions count bytes
+    pub packed-refused : (leb entries 512 && leb size 65535 && leb size (length bytes)) ≡ false → packed_reply (Packed.Refused 12) bytes ≡ packed_in order timestamps withdrawn lengths programs versions count bytes
     unfolding packed_in
     packed-refused q = rw (← e, ← s, and-true (leb size (length bytes)), ← and_assoc (leb entries 512) (leb size 65535) (leb size (length bytes)), q)
 
@@ -57,13 +57,13 @@ module _ {count : ℕ} {order timestamps withdrawn lengths programs versions : L
           let inner = both (leb entries 512) outer.0 in
           (leb-true _ _ inner.0, leb-true _ _ inner.1, leb-true _ _ outer.1)
 
-      pub packed-put : {after : List ℕ} {end : ℕ} → Put 0 (package_in order timestamps withdrawn lengths programs versions count) bytes after end → packed_reply (packed-answer.Length end) after ≡ packed_in order timestamps withdrawn lengths programs versions count bytes
+      pub packed-put : {after : List ℕ} {end : ℕ} → Put 0 (package_in order timestamps withdrawn lengths programs versions count) bytes after end → packed_reply (Packed.Length end) after ≡ packed_in order timestamps withdrawn lengths programs versions count bytes
       unfolding packed_in with_piece
       packed-put p =
           let whole = package_in order timestamps withdrawn lengths programs versions count in
           let there : 0 + length whole ≡ size = omega (arith, s) in
           rw (← e, ← s, and-true (leb size (length bytes)), ← and_assoc (leb entries 512) (leb size 65535) (leb size (length bytes)), q)
-          (ap₂ (λ (k : ℕ) (l : List ℕ). packed_reply (packed-answer.Length k) l) (p.ends ∙ there) (p.holds ∙ ap (λ (k : ℕ). whole ++ drop k bytes) there))
+          (ap₂ (λ (k : ℕ) (l : List ℕ). packed_reply (Packed.Length k) l) (p.ends ∙ there) (p.holds ∙ ap (λ (k : ℕ). whole ++ drop k bytes) there))
 
   -- the parts, one after the other
   pub parts-put : (bytes : List ℕ) {first second third last : List ℕ} {entries a b c d : ℕ} → entries ≡ entries_in order withdrawn count → Put 0 (number_bytes 2 entries) bytes first a → Put a (pieces_below count (change_entry order timestamps lengths versions)) first second b → Put b (pieces_below count (withdrawal_entry order timestamps withdrawn)) second third c → Put c (pieces_below count (body_in order lengths programs)) third last d → Put 0 (package_in order timestamps withdrawn lengths programs versions count) bytes last d

@@ -1,7 +1,7 @@
 -- The package of the first changes of the order list, as a function of the lent lists.
 use Rattle.std.specs.Prelude.{cond, List, [], ◌∷◌, ◌++◌, ℕ, ◌+◌, eqb, length, drop}
 use Rattle.text.specs.Pieces.{pieces_below}
-use Rattle.model.specs.declared.Packed.TheVariants as packed-answer
+use Rattle.model.specs.Answers.{Packed}
 use Rattle.model.specs.Refusals.{first_of, no_room}
 use Rattle.model.specs.Package.{number_bytes}
 use Rattle.model.specs.Calls.{PackedReply, packed_reply}
@@ -24,5 +24,5 @@ unfoldable pub packed_in : List ℕ → List ℕ → List ℕ → List ℕ → L
 packed_in order timestamps withdrawn lengths programs versions count bytes =
     let written = package_in order timestamps withdrawn lengths programs versions count in
     let r = first_of (no_room (entries_in order withdrawn count) (length written) (length bytes) ∷ []) in
-    cond (eqb r 0) (packed_reply (packed-answer.Length (length written)) (written ++ drop (length written) bytes))
-    (packed_reply (packed-answer.Refused r) bytes)
+    cond (eqb r 0) (packed_reply (Packed.Length (length written)) (written ++ drop (length written) bytes))
+    (packed_reply (Packed.Refused r) bytes)

@@ -7,7 +7,7 @@ use Prim.Native.Nat.{ℕ, ◌+◌, ◌<◌, ◌≤◌}
 use native.Mathlib.Omega.{arith}
 use lib.IntN.{ℤ}
 use lib.ListN.{length, get_or, replicate, length-replicate, get_or-replicate}
-use Rattle.model.specs.declared.Turned.{Turned}
+use Rattle.model.specs.Answers.{Turned}
 use Rattle.model.specs.History.{History}
 use Rattle.model.specs.Figure.{Event, Step, idle, turned}
 use Rattle.model.specs.Drain.{Drain, drain_more, drain_history, total_count, total_at}

@@ -5,7 +5,7 @@ use Prim.Native.Nat.{ℕ, ◌+◌, ◌<◌, ◌≤◌}
 use native.Mathlib.Omega.{arith}
 use lib.IntN.{ℤ}
 use lib.ListN.{replicate}
-use Rattle.model.specs.declared.Turned.{Turned}
+use Rattle.model.specs.Answers.{Turned}
 use Rattle.model.specs.Drain.{total_count}
 use Rattle.model.specs.Tables.{Tables, held_count}
 use Rattle.model.specs.Calls.{reply}

@@ -10,9 +10,7 @@ use lib.Dec.{ltb}
 use lib.IntN.{ℤ}
 use lib.ListN.{length, get_or}
 use Rattle.machine.specs.Settings.{setting_count, value_in}
-use Rattle.model.specs.declared.Answer.TheVariants as answer
-use Rattle.model.specs.declared.Value.TheVariants as value
-use Rattle.model.specs.declared.Standing.TheVariants as standing-at
+use Rattle.model.specs.Answers.{Answer, Value, Standing}
 use Rattle.model.specs.History.{is_timestamp, all_settings}
 use Rattle.model.specs.Cabinet.{kept_values_in, history_of, find}
 use Rattle.model.specs.Tables.{Tables, held_count, cutoff_in, program_at, decode}
@@ -35,7 +33,7 @@ use Rattle.query_answers.specs.Queries.{current_answer, as_of_answer, standing_f
 -- ---- current value
 
 module _ (n : ℕ) (T : Tables) (s : ℕ) where
-  pub current-fault : {r : ℕ} → r ≡ fault_of n T → (r ≡ 0 → ⊥) → value.Refused r ≡ current_value n T s
+  pub current-fault : {r : ℕ} → r ≡ fault_of n T → (r ≡ 0 → ⊥) → Value.Refused r ≡ current_value n T s
   unfolding current_value
   current-fault e f = rw (faulty n T e (no_setting s ∷ []) f, ne_eqb _ 0 f)
 
@@ -50,7 +48,7 @@ pub as-of-asks : {n k : ℕ} {T : Tables} → Formed n T → k ≡ held_count T 
 as-of-asks g e = rw e (placed-stamps g, omega (arith, (facts g).sizes.writes, (facts g).sizes.timestamps), listed g, (facts g).sizes.kept)
 
 module _ (n : ℕ) (T : Tables) (t s : ℕ) where
-  pub as-of-fault : {r : ℕ} → r ≡ fault_of n T → (r ≡ 0 → ⊥) → value.Refused r ≡ value_as_of n T t s
+  pub as-of-fault : {r : ℕ} → r ≡ fault_of n T → (r ≡ 0 → ⊥) → Value.Refused r ≡ value_as_of n T t s
   unfolding value_as_of
   as-of-fault e f = rw (faulty n T e (no_time t ∷ below_cutoff (cutoff_in T) t ∷ no_setting s ∷ []) f, ne_eqb _ 0 f)
 
@@ -67,7 +65,7 @@ standing-asks g e =
     rw e (placed-stamps g, omega (arith, l.status, l.timestamps), omega (arith, l.withdrawn, l.timestamps))
 
 module _ (n : ℕ) (T : Tables) (t : ℕ) where
-  pub standing-fault : {r : ℕ} → r ≡ fault_of n T → (r ≡ 0 → ⊥) → standing-at.Refused r ≡ standing n T t
+  pub standing-fault : {r : ℕ} → r ≡ fault_of n T → (r ≡ 0 → ⊥) → Standing.Refused r ≡ standing n T t
   unfolding standing
   standing-fault e f = rw (faulty n T e (no_timestamp t ∷ below_cutoff (cutoff_in T) t ∷ not_held (decode T) t ∷ []) f, ne_eqb _ 0 f)
 
@@ -75,7 +73,7 @@ module _ (n : ℕ) (T : Tables) (t : ℕ) where
   unfolding standing
   standing-formed g e = rw (formed-first g (no_timestamp t ∷ below_cutoff (cutoff_in T) t ∷ not_held (decode T) t ∷ []), e) (go (is_timestamp t) (ltb t (cutoff_in T)) (position_in T t) refl)
     where
-      go : (b cut : Bool) (p : Option ℕ) → position_in T t ≡ p → cond (not b) (standing-at.Refused 4) (cond cut (standing-at.Refused 14) (standing_found T.order T.status T.withdrawn p)) ≡ unless_read (first_of (test 4 (not b) ∷ test 14 cut ∷ not_held (decode T) t ∷ [])) standing-at.Refused (standing_of (find t (history_of (decode T))))
+      go : (b cut : Bool) (p : Option ℕ) → position_in T t ≡ p → cond (not b) (Standing.Refused 4) (cond cut (Standing.Refused 14) (standing_found T.order T.status T.withdrawn p)) ≡ unless_read (first_of (test 4 (not b) ∷ test 14 cut ∷ not_held (decode T) t ∷ [])) Standing.Refused (standing_of (find t (history_of (decode T))))
       go false cut p q = refl
       go true true p q = refl
       go true false none q = rw (position-none g t q)
@@ -84,20 +82,20 @@ module _ (n : ℕ) (T : Tables) (t : ℕ) where
           let laid = sym (facts g).laid in
           let here = place_of g k in
           rw (position_some g t k q).1
-          (ap₂ standing-at.At (ap₂ (λ (U : Tables) (i : ℕ). get_or U.status i 0) laid here ∙ status-at n (decode T) place) (ap₂ (λ (U : Tables) (i : ℕ). get_or U.withdrawn i 0) laid here ∙ withdrawn-at n (decode T) place))
+          (ap₂ Standing.At (ap₂ (λ (U : Tables) (i : ℕ). get_or U.status i 0) laid here ∙ status-at n (decode T) place) (ap₂ (λ (U : Tables) (i : ℕ). get_or U.withdrawn i 0) laid here ∙ withdrawn-at n (decode T) place))
 
 -- ---- plain run
 
 module _ (n : ℕ) (T : Tables) (settings : List ℤ) where
-  pub plain-wrong-length : (length settings ≡ setting_count → ⊥) → plain_reply (answer.Refused 1) settings ≡ plain_run n T settings
+  pub plain-wrong-length : (length settings ≡ setting_count → ⊥) → plain_reply (Answer.Refused 1) settings ≡ plain_run n T settings
   unfolding plain_run
   plain-wrong-length h = rw (ne_eqb _ setting_count h, and-false (lengths_fit n T))
 
   module _ (l : length settings ≡ setting_count) where
-    pub plain-fault : {r : ℕ} → r ≡ fault_of n T → (r ≡ 0 → ⊥) → plain_reply (answer.Refused r) settings ≡ plain_run n T settings
+    pub plain-fault : {r : ℕ} → r ≡ fault_of n T → (r ≡ 0 → ⊥) → plain_reply (Answer.Refused r) settings ≡ plain_run n T settings
     unfolding plain_run
     plain-fault e f = rw (eq-eqb _ setting_count l, and-true (lengths_fit n T), ← e, ne_eqb _ 0 f)
 
-    pub plain_done : {k : ℕ} {values : List ℤ} → Formed n T → k ≡ held_count T → values ≡ held_run T.order T.withdrawn (program_at T) T.kept k → plain_reply answer.Done values ≡ plain_run n T settings
+    pub plain_done : {k : ℕ} {values : List ℤ} → Formed n T → k ≡ held_count T → values ≡ held_run T.order T.withdrawn (program_at T) T.kept k → plain_reply Answer.Done values ≡ plain_run n T settings
     unfolding plain_run
-    plain_done g e h = rw (eq-eqb _ setting_count l, g.sized, g.form) (ap (plain_reply answer.Done) (h ∙ ap₂ (λ (values : List ℤ) (m : ℕ). held_run T.order T.withdrawn (program_at T) values m) (sym (all-value T.kept (facts g).sizes.kept) ∙ ap all_settings (sym (kept_in T))) e ∙ held-fresh g (kept_values_in (decode T))))
+    plain_done g e h = rw (eq-eqb _ setting_count l, g.sized, g.form) (ap (plain_reply Answer.Done) (h ∙ ap₂ (λ (values : List ℤ) (m : ℕ). held_run T.order T.withdrawn (program_at T) values m) (sym (all-value T.kept (facts g).sizes.kept) ∙ ap all_settings (sym (kept_in T))) e ∙ held-fresh g (kept_values_in (decode T))))

@@ -8,8 +8,7 @@ use lib.ListN.{length}
 use Rattle.general.proofs.Cases.{true-is-not-false}
 use Rattle.text.specs.Pieces.{Put}
 use Rattle.text.proofs.Pieces.{put_as, put-nothing, put_then}
-use Rattle.model.specs.declared.Turned.{Turned}
-use Rattle.model.specs.declared.Turned.TheVariants as turn-answer
+use Rattle.model.specs.Answers.{Turned}
 use Rattle.model.specs.Tables.{Tables}
 use Rattle.model.specs.Form.{Formed}
 use Rattle.model.specs.Calls.{Reply, reply, turn, drain}
@@ -24,13 +23,13 @@ use Rattle.replies.specs.Putting.{TurnsPut}
 
 -- ---- one turn
 
-idle-is : (a : Turned) → is_idle a ≡ true → a ≡ turn-answer.Idle
-idle-is turn-answer.Idle q = refl
-idle-is (turn-answer.Ran t) q = true-is-not-false (sym q)
-idle-is (turn-answer.Stood t) q = true-is-not-false (sym q)
-idle-is (turn-answer.Cleared t) q = true-is-not-false (sym q)
-idle-is (turn-answer.Faulted t place) q = true-is-not-false (sym q)
-idle-is (turn-answer.Refused r) q = true-is-not-false (sym q)
+idle-is : (a : Turned) → is_idle a ≡ true → a ≡ Turned.Idle
+idle-is Turned.Idle q = refl
+idle-is (Turned.Ran t) q = true-is-not-false (sym q)
+idle-is (Turned.Stood t) q = true-is-not-false (sym q)
+idle-is (Turned.Cleared t) q = true-is-not-false (sym q)
+idle-is (Turned.Faulted t place) q = true-is-not-false (sym q)
+idle-is (Turned.Refused r) q = true-is-not-false (sym q)
 
 turn-formed : (T : Tables) → Formed capacity T → Formed capacity (turn capacity T).tables
 unfolding after_call
@@ -51,7 +50,7 @@ pub record Turning (T₀ : Tables) (at : ℕ) (before : List ℕ) (T : Tables) (
   pub short : end + 64 * length (drain_turns capacity T) ≤ at + 8192
   pub left : (drain capacity T).tables ≡ (drain capacity T₀).tables
   pub same : length text ≡ length before
-  pub ended : idle ≡ true → (turn capacity T).answer ≡ turn-answer.Idle
+  pub ended : idle ≡ true → (turn capacity T).answer ≡ Turned.Idle
 
 -- from T to U there is a turn less
 abbrev Next : Tables → ℕ → List ℕ → Tables → Tables → List ℕ → ℕ → Bool → Type 0

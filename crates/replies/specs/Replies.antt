@@ -1,6 +1,6 @@
 -- What the cabinet program prints of the reply to a package (document 01, "Cases to know").
 use Rattle.std.specs.Prelude.{cond, List, [], ◌∷◌, ◌++◌, ℕ, eqb}
-use Rattle.model.specs.declared.Turned.{Turned}
+use Rattle.model.specs.Answers.{Turned}
 use Rattle.model.specs.Calls.{answer_number, PackageReply, drain}
 use Rattle.model.specs.Log.{drain_turns}
 use Rattle.lines.specs.Lines.{package_line, turn_line}

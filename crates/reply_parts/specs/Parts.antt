@@ -2,8 +2,7 @@
 use Rattle.std.specs.Prelude.{Bool, true, false, List, ℕ, ℤ, get_or}
 use Rattle.text.specs.Pieces.{pieces_below}
 use Rattle.machine.specs.Settings.{setting_count, value_in}
-use Rattle.model.specs.declared.Turned.{Turned}
-use Rattle.model.specs.declared.Turned.TheVariants as turn-answer
+use Rattle.model.specs.Answers.{Turned}
 use Rattle.model.specs.History.{start}
 use Rattle.model.specs.Package.{entry_count, kind_of}
 use Rattle.lines.specs.Lines.{entry_line, setting_line}
@@ -24,9 +23,9 @@ setting_lines view = pieces_below setting_count (setting_of view)
 
 -- whether a turn is idle
 abbrev pub is_idle : Turned → Bool
-is_idle turn-answer.Idle = true
-is_idle (turn-answer.Ran t) = false
-is_idle (turn-answer.Stood t) = false
-is_idle (turn-answer.Cleared t) = false
-is_idle (turn-answer.Faulted t place) = false
-is_idle (turn-answer.Refused r) = false
+is_idle Turned.Idle = true
+is_idle (Turned.Ran t) = false
+is_idle (Turned.Stood t) = false
+is_idle (Turned.Cleared t) = false
+is_idle (Turned.Faulted t place) = false
+is_idle (Turned.Refused r) = false

@@ -5,7 +5,7 @@ use Prim.Native.Nat.{ℕ, ◌-◌, ◌*◌}
 use native.Mathlib.Omega.{arith}
 use lib.IntN.{pos}
 use lib.ListN.{length, replicate}
-use Rattle.model.specs.declared.Answer.TheVariants as answer
+use Rattle.model.specs.Answers.{Answer}
 use Rattle.model.specs.History.{start, all_settings}
 use Rattle.model.specs.Cabinet.{empty_cabinet}
 use Rattle.model.specs.Tables.{Tables, tables, encode}
@@ -50,15 +50,15 @@ pub record Cleared (T U : Tables) : Type 0 where
   pub kept : U.kept ≡ all_settings start
 
 module _ (n : ℕ) (T : Tables) where
-  pub set-up-refused : lengths_fit n T ≡ false → reply (answer.Refused 1) T ≡ set_up n T
+  pub set-up-refused : lengths_fit n T ≡ false → reply (Answer.Refused 1) T ≡ set_up n T
   unfolding set_up
   set-up-refused e = rw e
 
-  pub all-cleared : {U : Tables} → lengths_fit n T ≡ true → Cleared T U → reply answer.Done U ≡ set_up n T
+  pub all-cleared : {U : Tables} → lengths_fit n T ≡ true → Cleared T U → reply Answer.Done U ≡ set_up n T
   unfolding set_up
   all-cleared e c =
       let g = lengths-of n T e in
       rw (e, empty-tables n)
       (λ j.
-      reply answer.Done
+      reply Answer.Done
       (tables ((c.held ∙ recounted 0 g.held) j) ((c.timestamps ∙ recounted 0 g.timestamps) j) ((c.order ∙ recounted 0 g.order) j) ((c.status ∙ recounted 0 g.status) j) ((c.withdrawn ∙ recounted 0 g.withdrawn) j) ((c.lengths ∙ recounted 0 g.lengths) j) ((c.programs ∙ recounted 0 g.programs) j) ((c.reads ∙ recounted 0 g.reads) j) ((c.writes ∙ recounted 0 g.writes) j) ((c.sources ∙ recounted 0 g.sources) j) ((c.seen ∙ recounted (pos 0) g.seen) j) ((c.targets ∙ recounted 0 g.targets) j) ((c.written ∙ recounted (pos 0) g.written) j) (c.view j) ((c.versions ∙ recounted 0 g.versions) j) ((c.cutoff ∙ recounted 0 g.cutoff) j) (c.kept j)))

@@ -6,7 +6,7 @@ use Prim.Native.Nat.{ℕ}
 use native.Mathlib.Omega.{arith}
 use lib.IntN.{pos}
 use lib.ListN.{length, replicate}
-use Rattle.model.specs.declared.Turned.TheVariants as turn-answer
+use Rattle.model.specs.Answers.{Turned}
 use Rattle.model.specs.Cabinet.{kept_values_in}
 use Rattle.model.specs.Tables.{Tables, decode}
 use Rattle.model.specs.Calls.{reply, step_reply}
@@ -21,7 +21,7 @@ use Rattle.uses.proofs.LastUses.{numbers-new}
 use Rattle.turns.specs.Turns.{turned, Turnable}
 
 -- no change waits
-pub turn-idle : {T : Tables} → Formed (length T.order) T → waiting_in T ≡ none → reply turn-answer.Idle T ≡ turned T
+pub turn-idle : {T : Tables} → Formed (length T.order) T → waiting_in T ≡ none → reply Turned.Idle T ≡ turned T
 unfolding turned
 turn-idle {T} g w = sym (ap (step_reply (length T.order) T (decode T)) (round-walk (kept_values_in (decode T)) (history_in T) (decode T).view 0 (facts g).sound.rising ∙ walk_none g w (kept_values_in (decode T)) (decode T).view))
 

@@ -1,7 +1,7 @@
 -- A taking in or a withdrawal on tables in form, by its answer.
 use mathlib.Core.Path.{◌≡◌, ap, ap₂, ◌∙◌}
 use Prim.Native.Nat.{ℕ}
-use Rattle.model.specs.declared.Answer.{Answer}
+use Rattle.model.specs.Answers.{Answer}
 use Rattle.model.specs.Tables.{Tables, encode, decode}
 use Rattle.model.specs.Form.{Formed}
 use Rattle.model.specs.Package.{Item}

@@ -1,6 +1,6 @@
 -- Part of the tables, lent without the others: a function from whole tables, of which it keeps the others, to whole tables with that part.
 use Rattle.std.specs.Prelude.{◌≡◌, ℕ}
-use Rattle.model.specs.declared.Answer.{Answer}
+use Rattle.model.specs.Answers.{Answer}
 use Rattle.model.specs.Tables.{Tables}
 use Rattle.model.specs.Form.{Formed}
 use Rattle.model.specs.Package.{Item}

@@ -10,7 +10,7 @@ use lib.Dec.{leb, ltb}
 use lib.ListN.{length}
 use Rattle.machine.specs.Instruction.{Code}
 use Rattle.machine.specs.Form.{length_fits, all_well_formed}
-use Rattle.model.specs.declared.Answer.TheVariants as answer
+use Rattle.model.specs.Answers.{Answer}
 use Rattle.model.specs.History.{is_timestamp, Change, program}
 use Rattle.model.specs.Cabinet.{Cabinet, history_of, find}
 use Rattle.model.specs.Refusals.{first_of, same_program, held_otherwise, full}
@@ -34,14 +34,14 @@ acceptable cutoff t p e =
     record { stamped = not-false _ z.0; from = z.1.0; sized = not-false _ z.1.1.0; versioned = not-false _ z.1.1.1.0; formed = not-false _ z.1.1.1.1.0 }
 
 -- a held timestamp, by the test of the program and the one of the held count, which does not matter then
-by_tests : (same full : Bool) → cond same answer.Held (answer.Refused 8) ≡ unless_read (cond (not same) 8 (cond (full && false) 9 0)) answer.Refused answer.Held
+by_tests : (same full : Bool) → cond same Answer.Held (Answer.Refused 8) ≡ unless_read (cond (not same) 8 (cond (full && false) 9 0)) Answer.Refused Answer.Held
 by_tests true true = refl
 by_tests true false = refl
 by_tests false full = refl
 
 module _ (n : ℕ) (c : Cabinet) (t : ℕ) (p : Code) where
   -- refused by themselves
-  pub refused : {r : ℕ} → r ≡ first_of (argument_tests c.cutoff t p) → (r ≡ 0 → ⊥) → answer.Refused r ≡ item_answer n c (taking t p)
+  pub refused : {r : ℕ} → r ≡ first_of (argument_tests c.cutoff t p) → (r ≡ 0 → ⊥) → Answer.Refused r ≡ item_answer n c (taking t p)
   unfolding item_answer
   refused e f = rw (← first-refusal (argument_tests c.cutoff t p) (held_otherwise c t p ∷ full n c t ∷ []) e f, ne_eqb _ 0 f)
 
@@ -52,10 +52,10 @@ module _ (n : ℕ) (c : Cabinet) (t : ℕ) (p : Code) where
     compared {u} e = rw (a.stamped, a.from, a.sized, a.versioned, a.formed, e) (by_tests (same_program (program u) p) (leb n (length c.changes)))
 
     -- it is not, and no place or one is left
-    pub none_left : find t (history_of c) ≡ none → n ≤ length c.changes → answer.Refused 9 ≡ item_answer n c (taking t p)
+    pub none_left : find t (history_of c) ≡ none → n ≤ length c.changes → Answer.Refused 9 ≡ item_answer n c (taking t p)
     unfolding item_answer
     none_left e h = rw (a.stamped, a.from, a.sized, a.versioned, a.formed, e, le-leb n _ h)
 
-    pub place-left : find t (history_of c) ≡ none → length c.changes < n → answer.Done ≡ item_answer n c (taking t p)
+    pub place-left : find t (history_of c) ≡ none → length c.changes < n → Answer.Done ≡ item_answer n c (taking t p)
     unfolding item_answer
     place-left e h = rw (a.stamped, a.from, a.sized, a.versioned, a.formed, e, lt-leb n _ h)

@@ -8,8 +8,7 @@ use native.Mathlib.Omega.{arith}
 use lib.ListN.{length, get_or, set}
 use Rattle.machine.specs.Instruction.{Code}
 use Rattle.general.proofs.Cases.{by-test}
-use Rattle.model.specs.declared.Answer.{Answer}
-use Rattle.model.specs.declared.Answer.TheVariants as answer
+use Rattle.model.specs.Answers.{Answer}
 use Rattle.model.specs.History.{Change}
 use Rattle.model.specs.Cabinet.{blank, find, add}
 use Rattle.model.specs.Tables.{Tables, with_taking, encode, held_count, cutoff_in, program_at, decode}
@@ -30,7 +29,7 @@ use Rattle.taking.proofs.Entered.{entered_in, added}
 use Rattle.taking.proofs.Answers.{Acceptable, refused, compared, none_left, place-left}
 
 -- refused by its arguments
-pub refused-replied : {n : ℕ} {T : Tables} → Formed n T → (t : ℕ) (p : Code) {r : ℕ} → r ≡ first_of (argument_tests (cutoff_in T) t p) → (r ≡ 0 → ⊥) → reply (answer.Refused r) T ≡ item_call n T (taking t p)
+pub refused-replied : {n : ℕ} {T : Tables} → Formed n T → (t : ℕ) (p : Code) {r : ℕ} → r ≡ first_of (argument_tests (cutoff_in T) t p) → (r ≡ 0 → ⊥) → reply (Answer.Refused r) T ≡ item_call n T (taking t p)
 unfolding decode
 refused-replied {n} {T} g t p e f = item-replied (taking t p) g (refused n (decode T) t p e f) refl
 
@@ -107,11 +106,11 @@ module _ {n : ℕ} {T : Tables} (g : Formed n T) {t count position : ℕ} (r : A
 
     module _ (e : stamped_at T.order T.timestamps t count position ≡ false) where
       -- it is not, and no place is left
-      pub full-replied : count ≡ length T.timestamps → reply (answer.Refused 9) T ≡ item_call n T (taking t p)
+      pub full-replied : count ≡ length T.timestamps → reply (Answer.Refused 9) T ≡ item_call n T (taking t p)
       full-replied q = item-replied (taking t p) g (none_left n (decode T) t p a (free e) (omega (arith, r.counted, held-changes g, (facts g).sizes.timestamps))) refl
 
       -- one is left, and the change is stored there
-      pub done-replied : {order programs : List ℕ} → (count ≡ length T.timestamps → ⊥) → order ≡ entered count position T.order → programs ≡ copied p.bytes (256 * count) T.programs → reply answer.Done (with_taking T (set T.held 0 (count + 1)) (set T.timestamps count t) order (set T.lengths count (length p.bytes / 8)) programs (set T.versions count p.version)) ≡ item_call n T (taking t p)
+      pub done-replied : {order programs : List ℕ} → (count ≡ length T.timestamps → ⊥) → order ≡ entered count position T.order → programs ≡ copied p.bytes (256 * count) T.programs → reply Answer.Done (with_taking T (set T.held 0 (count + 1)) (set T.timestamps count t) order (set T.lengths count (length p.bytes / 8)) programs (set T.versions count p.version)) ≡ item_call n T (taking t p)
       done-replied {order} {programs} f ordered programmed =
           let left = room-left f in
           let room : length (decode T).changes < n = omega (arith, left.next, r.counted, held-changes g) in

@@ -7,8 +7,7 @@ use native.Mathlib.Omega.{arith}
 use lib.IntN.{ℤ}
 use lib.ListN.{length, length-map}
 use Rattle.general.proofs.Cases.{impossible}
-use Rattle.model.specs.declared.Turned.{Turned}
-use Rattle.model.specs.declared.Turned.TheVariants.{Idle}
+use Rattle.model.specs.Answers.{Turned, Idle}
 use Rattle.model.specs.History.{History}
 use Rattle.model.specs.Figure.{Event, Step, idle, turned}
 use Rattle.model.specs.Drain.{drain_none, drain_more, drain_history}

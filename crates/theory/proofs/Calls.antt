@@ -8,8 +8,7 @@ use borrow.Author.Tests.{ltb-true, ltb-false, eqb-true, eq-eqb, not-false}
 use lib.Dec.{eqb, ltb}
 use lib.ListN.{length}
 use Rattle.general.proofs.Cases.{by-test, by-test₂, both}
-use Rattle.model.specs.declared.Answer.{Answer}
-use Rattle.model.specs.declared.Answer.TheVariants as answer
+use Rattle.model.specs.Answers.{Answer}
 use Rattle.model.specs.History.{infinity}
 use Rattle.model.specs.Figure.{Step, idle, turned}
 use Rattle.model.specs.Drain.{total_count, totals}
@@ -87,25 +86,25 @@ module _ {n : ℕ} {c : Cabinet} (s : Sound n c) where
   pub turn-events : turn_events n (encode n c) ≡ step_events (round_of c)
   turn-events = rw ((encode-formed s).sized, (encode-formed s).form, decode-encode n c s)
 
-  pub drain-call : drain n (encode n c) ≡ record { answer = answer.Done; tables = encode n (drained c) }
+  pub drain-call : drain n (encode n c) ≡ record { answer = Answer.Done; tables = encode n (drained c) }
   unfolding drain
   drain-call = rw ((encode-formed s).sized, (encode-formed s).form, decode-encode n c s)
 
   pub drain-events : drain_events n (encode n c) ≡ (drain_of c).events
   drain-events = rw ((encode-formed s).sized, (encode-formed s).form, decode-encode n c s)
 
-  pub totals-call : (lent : List ℕ) → drain_with_totals n (encode n c) lent ≡ cond (eqb (length lent) total_count) (totals_reply answer.Done (encode n (drained c)) (totals (drain_of c).events)) (totals_reply (answer.Refused 1) (encode n c) lent)
+  pub totals-call : (lent : List ℕ) → drain_with_totals n (encode n c) lent ≡ cond (eqb (length lent) total_count) (totals_reply Answer.Done (encode n (drained c)) (totals (drain_of c).events)) (totals_reply (Answer.Refused 1) (encode n c) lent)
   unfolding drain_with_totals
   totals-call lent = rw (drain-call, (encode-formed s).sized, (encode-formed s).form, decode-encode n c s) (go _ (eqb (length lent) total_count))
     where
-      go : (done : TotalsReply) (b : Bool) → let r = first_of (test 1 (not b) ∷ []) in cond (eqb r 0) done (totals_reply (answer.Refused r) (encode n c) lent) ≡ cond b done (totals_reply (answer.Refused 1) (encode n c) lent)
+      go : (done : TotalsReply) (b : Bool) → let r = first_of (test 1 (not b) ∷ []) in cond (eqb r 0) done (totals_reply (Answer.Refused r) (encode n c) lent) ≡ cond b done (totals_reply (Answer.Refused 1) (encode n c) lent)
       go done true = refl
       go done false = refl
 
   pub drain-answered : DrainAnswered n (encode n c)
   drain-answered lent e = rw (totals-call lent, eq-eqb (length lent) total_count e, drain-call, drain-events)
 
-  pub cutoff-call : (t : ℕ) → raise_cutoff n (encode n c) t ≡ cond (eqb (cutoff_refusal c t) 0) (reply answer.Done (encode n (cut_at t c))) (reply (answer.Refused (cutoff_refusal c t)) (encode n c))
+  pub cutoff-call : (t : ℕ) → raise_cutoff n (encode n c) t ≡ cond (eqb (cutoff_refusal c t) 0) (reply Answer.Done (encode n (cut_at t c))) (reply (Answer.Refused (cutoff_refusal c t)) (encode n c))
   unfolding raise_cutoff
   cutoff-call t = rw ((encode-formed s).sized, (encode-formed s).form, decode-encode n c s)
 

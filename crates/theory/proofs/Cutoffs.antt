@@ -7,7 +7,7 @@ use native.Mathlib.Omega.{arith}
 use borrow.Author.Tests.{lt-ltb, le-ltb}
 use lib.ListN.{length, get_or, drop}
 use Rattle.machine.specs.Settings.{Environment}
-use Rattle.model.specs.declared.Answer.TheVariants.{Done}
+use Rattle.model.specs.Answers.{Done}
 use Rattle.model.specs.History.{infinity, start, New, Valid, Invalid, Lists, Change, change, timestamp, History, all_settings}
 use Rattle.model.specs.Cabinet.{Cabinet, empty_cabinet, kept_values_in, blank, history_of, closed_to, renumbered, cut_at}
 use Rattle.model.specs.Tables.{Tables, encode, decode}

@@ -12,8 +12,7 @@ use lib.Seq.{append_snoc}
 use Rattle.machine.specs.Instruction.{Code}
 use Rattle.machine.specs.Form.{length_fits, all_well_formed}
 use Rattle.general.proofs.Cases.{of-choice, impossible}
-use Rattle.model.specs.declared.Answer.{Answer}
-use Rattle.model.specs.declared.Answer.TheVariants.{Done}
+use Rattle.model.specs.Answers.{Answer, Done}
 use Rattle.model.specs.History.{infinity, Change, change, withdrawn, History}
 use Rattle.model.specs.Cabinet.{Cabinet, history_of, find}
 use Rattle.model.specs.Package.{Item, taking, withdrawing}

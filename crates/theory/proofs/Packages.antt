@@ -9,9 +9,7 @@ use lib.Dec.{eqb, leb}
 use lib.ListN.{length, take, drop, replicate}
 use lib.Seq.{take_at, drop_at}
 use Rattle.general.proofs.Cases.{by-test, both, impossible}
-use Rattle.model.specs.declared.Answer.TheVariants.{Done}
-use Rattle.model.specs.declared.Packed.{Packed}
-use Rattle.model.specs.declared.Packed.TheVariants.{Length, Refused}
+use Rattle.model.specs.Answers.{Done, Packed, Length}
 use Rattle.model.specs.Cabinet.{Cabinet, empty_cabinet, history_of}
 use Rattle.model.specs.Tables.{Tables, decode}
 use Rattle.model.specs.Form.{lengths_fit, in_form, Formed}
@@ -72,7 +70,7 @@ record Wrote (n : ℕ) (T : Tables) (bytes : List ℕ) (size : ℕ) : Type 0 whe
 
 length-of : Packed → ℕ
 length-of (Length size) = size
-length-of (Refused r) = 0
+length-of (Packed.Refused r) = 0
 
 module _ (n : ℕ) (T : Tables) (bytes : List ℕ) (size : ℕ) where
   abbrev refusal : ℕ

@@ -7,7 +7,7 @@ use lib.Dec.{eqb}
 use lib.ListN.{length, drop}
 use Rattle.machine.specs.Settings.{Environment}
 use Rattle.general.proofs.Cases.{by-test, by-test₂}
-use Rattle.model.specs.declared.Answer.{Answer}
+use Rattle.model.specs.Answers.{Answer}
 use Rattle.model.specs.History.{start}
 use Rattle.model.specs.Figure.{Event, Step, idle, turned}
 use Rattle.model.specs.Drain.{total_count}

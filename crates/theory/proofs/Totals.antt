@@ -8,7 +8,7 @@ use borrow.Author.Tests.{ne_eqb, eqb-true, eqb-false, not-false}
 use lib.Dec.{eqb}
 use lib.ListN.{length, get_or, length-map}
 use Rattle.general.proofs.Cases.{by-test, both, impossible}
-use Rattle.model.specs.declared.Answer.TheVariants as answer
+use Rattle.model.specs.Answers.{Answer}
 use Rattle.model.specs.Figure.{Event, event_timestamp}
 use Rattle.model.specs.Drain.{console, kind, kind_turns, console_turns, total_count, total_place, total_at, totals}
 use Rattle.model.specs.Tables.{Tables}
@@ -87,17 +87,17 @@ module _ (n : ℕ) (T : Tables) (lent : List ℕ) where
   abbrev refusal : ℕ
   refusal = first_of (wrong_length n T (length lent) total_count ∷ not_in_form n T ∷ [])
 
-  done-formed : (drain_with_totals n T lent).answer ≡ answer.Done → Formed n T × (length lent ≡ total_count)
+  done-formed : (drain_with_totals n T lent).answer ≡ Answer.Done → Formed n T × (length lent ≡ total_count)
   unfolding drain_with_totals
   done-formed e =
-      by-test (λ (r : TotalsReply). r.answer ≡ answer.Done → Formed n T × (length lent ≡ total_count)) (eqb refusal 0)
+      by-test (λ (r : TotalsReply). r.answer ≡ Answer.Done → Formed n T × (length lent ≡ total_count)) (eqb refusal 0)
       (λ q a.
       let none = none-applies (wrong_length n T (length lent) total_count ∷ not_in_form n T ∷ []) (omega arith) (eqb-true refusal 0 q) in
       let lengths = both (lengths_fit n T) (not-false _ none.0) in
       (record { sized = lengths.0; form = not-false (in_form n T) none.1.0 }, eqb-true (length lent) total_count lengths.1))
       (λ q a. impossible (cc)) e
 
-pub totals-sum : (n : ℕ) (T : Tables) (lent : List ℕ) → (drain_with_totals n T lent).answer ≡ answer.Done → TotalsSum n T lent
+pub totals-sum : (n : ℕ) (T : Tables) (lent : List ℕ) → (drain_with_totals n T lent).answer ≡ Answer.Done → TotalsSum n T lent
 totals-sum n T lent e =
     let f = done-formed n T lent e in
     let d = drains-any n T f.0 in

@@ -1,6 +1,6 @@
 -- What is promised on any tables in form, reached by calls or not.
 use Rattle.std.specs.Prelude.{◌≡◌, [], ◌∷◌, ℕ, ◌≤◌, length}
-use Rattle.model.specs.declared.Turned.TheVariants.{Idle}
+use Rattle.model.specs.Answers.{Idle}
 use Rattle.model.specs.Drain.{RisingEvents}
 use Rattle.model.specs.Tables.{Tables, held_count}
 use Rattle.model.specs.Form.{Formed}

@@ -1,6 +1,6 @@
 -- R-7: what a cutoff leaves (document 02, R-7; source document 004, section 4.3).
 use Rattle.std.specs.Prelude.{◌≡◌, List, [], ◌∷◌, ◌++◌, ℕ, length, drop}
-use Rattle.model.specs.declared.Answer.TheVariants.{Done}
+use Rattle.model.specs.Answers.{Done}
 use Rattle.model.specs.Cabinet.{history_of}
 use Rattle.model.specs.Tables.{Tables, cutoff_in, decode}
 use Rattle.model.specs.Calls.{reply, drain, raise_cutoff}

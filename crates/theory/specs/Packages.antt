@@ -1,7 +1,6 @@
 -- R-3 over cabinets: what package out writes, and a cabinet filled with it (document 02, R-3).
 use Rattle.std.specs.Prelude.{◌≡◌, true, List, ◌++◌, ℕ, ◌≤◌, length, take, drop, replicate}
-use Rattle.model.specs.declared.Answer.TheVariants.{Done}
-use Rattle.model.specs.declared.Packed.TheVariants.{Length}
+use Rattle.model.specs.Answers.{Done, Length}
 use Rattle.model.specs.Cabinet.{history_of}
 use Rattle.model.specs.Tables.{Tables, decode}
 use Rattle.model.specs.Form.{lengths_fit}

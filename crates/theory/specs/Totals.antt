@@ -1,6 +1,6 @@
 -- R-5: the totals of a drain (document 02, R-5).
 use Rattle.std.specs.Prelude.{◌≡◌, List, ℕ, zero, suc, ◌+◌, ◌<◌, ◌≤◌, length, get_or}
-use Rattle.model.specs.declared.Answer.TheVariants.{Done}
+use Rattle.model.specs.Answers.{Done}
 use Rattle.model.specs.Drain.{kind_turns, total_count, total_place, totals}
 use Rattle.model.specs.Tables.{Tables, held_count}
 use Rattle.model.specs.Calls.{drain, totals_reply, drain_with_totals}

@@ -10,20 +10,19 @@ use lib.ListN.{length, get_or, length-set}
 use lib.Seq.{get_or-set_same, get_or-set_other}
 use Rattle.machine.specs.Run.{Ending, completed, faulted}
 use Rattle.general.proofs.Cases.{by-test, both, true-is-not-false}
-use Rattle.model.specs.declared.Turned.{Turned}
-use Rattle.model.specs.declared.Turned.TheVariants as turn-answer
+use Rattle.model.specs.Answers.{Turned}
 use Rattle.model.specs.Figure.{Event, ran, stood, cleared}
 use Rattle.model.specs.Drain.{console, run_kind, total_count, total_place, total_at}
 use Rattle.model.specs.Calls.{run_answer, event_answer}
 use Rattle.totals.specs.Counted.{counted_at, counted_in}
 
 pub counted-length : (a : Turned) (totals : List ℕ) → length (counted_in a totals) ≡ length totals
-counted-length turn-answer.Idle totals = refl
-counted-length (turn-answer.Ran t) totals = length-set totals _ _
-counted-length (turn-answer.Stood t) totals = length-set totals _ _
-counted-length (turn-answer.Cleared t) totals = length-set totals _ _
-counted-length (turn-answer.Faulted t place) totals = length-set totals _ _
-counted-length (turn-answer.Refused r) totals = refl
+counted-length Turned.Idle totals = refl
+counted-length (Turned.Ran t) totals = length-set totals _ _
+counted-length (Turned.Stood t) totals = length-set totals _ _
+counted-length (Turned.Cleared t) totals = length-set totals _ _
+counted-length (Turned.Faulted t place) totals = length-set totals _ _
+counted-length (Turned.Refused r) totals = refl
 
 module _ (totals : List ℕ) (size : length totals ≡ total_count) (place m : ℕ) where
   -- a console's turn of a kind, counted now or with the m that follow

@@ -1,7 +1,6 @@
 -- Totals with one more turn (document 02, R-5).
 use Rattle.std.specs.Prelude.{◌≡◌, List, ℕ, ◌+◌, ◌<◌, ◌≤◌, length, get_or, set}
-use Rattle.model.specs.declared.Turned.{Turned}
-use Rattle.model.specs.declared.Turned.TheVariants as turn-answer
+use Rattle.model.specs.Answers.{Turned}
 use Rattle.model.specs.Drain.{console, total_count, total_place}
 
 -- 1,024 totals, none of which is past the turns that a drain can have
@@ -15,9 +14,9 @@ counted_at c k totals = set totals (total_place c k) (get_or totals (total_place
 
 -- one more turn, by its answer
 abbrev pub counted_in : Turned → List ℕ → List ℕ
-counted_in turn-answer.Idle totals = totals
-counted_in (turn-answer.Ran t) totals = counted_at (console t) 0 totals
-counted_in (turn-answer.Stood t) totals = counted_at (console t) 1 totals
-counted_in (turn-answer.Cleared t) totals = counted_at (console t) 2 totals
-counted_in (turn-answer.Faulted t place) totals = counted_at (console t) 3 totals
-counted_in (turn-answer.Refused r) totals = totals
+counted_in Turned.Idle totals = totals
+counted_in (Turned.Ran t) totals = counted_at (console t) 0 totals
+counted_in (Turned.Stood t) totals = counted_at (console t) 1 totals
+counted_in (Turned.Cleared t) totals = counted_at (console t) 2 totals
+counted_in (Turned.Faulted t place) totals = counted_at (console t) 3 totals
+counted_in (Turned.Refused r) totals = totals

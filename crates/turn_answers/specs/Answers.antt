@@ -2,8 +2,7 @@
 use Rattle.std.specs.Prelude.{Bool, true, false, ℕ}
 use Rattle.run_record.specs.declared.Run.{Run}
 use Rattle.run_record.specs.Record.{ending_of}
-use Rattle.model.specs.declared.Turned.{Turned}
-use Rattle.model.specs.declared.Turned.TheVariants as turn-answer
+use Rattle.model.specs.Answers.{Turned}
 use Rattle.model.specs.Calls.{run_answer}
 use Rattle.acts.specs.declared.Act.{Act}
 use Rattle.acts.specs.declared.Act.TheVariants as act
@@ -16,6 +15,6 @@ is_stand act.Run = false
 
 -- the answer; where the change ran, by how that run ended
 abbrev pub answer_by : Act → Run → ℕ → Turned
-answer_by act.Clear r t = turn-answer.Cleared t
-answer_by act.Stand r t = turn-answer.Stood t
+answer_by act.Clear r t = Turned.Cleared t
+answer_by act.Stand r t = Turned.Stood t
 answer_by act.Run r t = run_answer t (ending_of r)

@@ -13,8 +13,7 @@ use Rattle.machine.specs.Run.{Outcome, run}
 use Rattle.general.proofs.Cases.{impossible, true-is-not-false}
 use Rattle.run_record.specs.declared.Run.{Run}
 use Rattle.run_record.specs.Record.{ending_of}
-use Rattle.model.specs.declared.Turned.{Turned}
-use Rattle.model.specs.declared.Turned.TheVariants as turn-answer
+use Rattle.model.specs.Answers.{Turned}
 use Rattle.model.specs.History.{Valid, Lists, empty, run_lists, Change, change, timestamp, program, status, withdrawn, lists, all_settings, eq_z}
 use Rattle.model.specs.Figure.{Event, stood, turned}
 use Rattle.model.specs.Walk.{differs, mark_live, live_at_end}
@@ -101,9 +100,9 @@ module _ {T : Tables} (g : Formed (length T.order) T) (k : ℕ) (w : waiting_in 
         (record { stamped = refl; programmed = refl; flagged = refl; reads_short = (here-sound g k held-here).reads.short; writes_short = (here-sound g k held-here).writes.short })
         refl
 
-    pub turn-stood : {t : ℕ} → t ≡ get_or T.timestamps place 0 → reply (turn-answer.Stood t) (with_status T status') ≡ turns.turned T
+    pub turn-stood : {t : ℕ} → t ≡ get_or T.timestamps place 0 → reply (Turned.Stood t) (with_status T status') ≡ turns.turned T
     turn-stood q =
-        ap (λ (t : ℕ). reply (turn-answer.Stood t) (with_status T status')) (q ∙ timestamp-here g k w)
+        ap (λ (t : ℕ). reply (Turned.Stood t) (with_status T status')) (q ∙ timestamp-here g k w)
         ∙ turn-leaves g k w stays (later g k w) (decode T).view stood-round stood-left
 
     pub going-stood :

@@ -7,8 +7,7 @@ use native.Mathlib.Omega.{arith}
 use lib.IntN.{ℤ}
 use lib.ListN.{length, get_or, set}
 use Rattle.run_record.specs.declared.Run.{Run}
-use Rattle.model.specs.declared.Turned.{Turned}
-use Rattle.model.specs.declared.Turned.TheVariants as turn-answer
+use Rattle.model.specs.Answers.{Turned}
 use Rattle.model.specs.Tables.{Tables, held_count, slots, list_in}
 use Rattle.model.specs.Calls.{reply}
 use Rattle.writers.specs.Writers.{OfSettings, WriteLists}
@@ -55,7 +54,7 @@ module _ {noted : Bool} {k : ℕ} {T : Tables} {known : List ℕ} {before after 
         stamp ≡ get_or T.timestamps place 0 →
         Carried (list_in T.writes T.targets T.written place) before' after' before'' after'' →
         status' ≡ set T.status place 1 →
-        (reply (turn-answer.Stood stamp) (with_status T status') ≡ turned T) × (noted ≡ true → Going (k + 1) (with_status T status') known' before'' after'' readers writers settled)
+        (reply (Turned.Stood stamp) (with_status T status') ≡ turned T) × (noted ≡ true → Going (k + 1) (with_status T status') known' before'' after'' readers writers settled)
     turn-stands b i s c q =
         let e = is-stand a (sym b ∙ i) in (
           turn-stood t.formed k t.waits d.0 e q s,

@@ -1,7 +1,7 @@
 -- One turn on the lent tables, and what is known while turns go up the order list.
 use Rattle.std.specs.Prelude.{◌≡◌, Bool, false, List, [], ◌∷◌, ℕ, ◌+◌, ◌<◌, ℤ, length}
 use Rattle.std.proofs.Math.Option.{some}
-use Rattle.model.specs.declared.Turned.{Turned}
+use Rattle.model.specs.Answers.{Turned}
 use Rattle.model.specs.Tables.{Tables, tables, decode}
 use Rattle.model.specs.Form.{Formed}
 use Rattle.model.specs.Calls.{Reply, step_reply, round_of}

@@ -7,7 +7,7 @@ use Prim.Native.Nat.{ℕ, ◌<◌}
 use native.Mathlib.Omega.{arith}
 use lib.Dec.{ltb}
 use lib.ListN.{length, get_or, set}
-use Rattle.model.specs.declared.Answer.TheVariants as answer
+use Rattle.model.specs.Answers.{Answer}
 use Rattle.model.specs.History.{is_timestamp, Change, timestamp, withdrawn}
 use Rattle.model.specs.Cabinet.{Cabinet, blank, history_of, find, flag, remove}
 use Rattle.model.specs.Tables.{Tables, with_withdrawing, flag_number, encode, cutoff_in, decode}
@@ -27,25 +27,25 @@ use Rattle.withdrawing.proofs.Flagged.{flag-restates, flag-status, flag-number, 
 -- ---- the answer, by its tests in order
 
 module _ (n : ℕ) (c : Cabinet) (t : ℕ) where
-  pub no-timestamp : is_timestamp t ≡ false → answer.Refused 4 ≡ item_answer n c (withdrawing t)
+  pub no-timestamp : is_timestamp t ≡ false → Answer.Refused 4 ≡ item_answer n c (withdrawing t)
   unfolding item_answer
   no-timestamp e = rw e
 
-  cut : is_timestamp t ≡ true → ltb t c.cutoff ≡ true → answer.Refused 14 ≡ item_answer n c (withdrawing t)
+  cut : is_timestamp t ≡ true → ltb t c.cutoff ≡ true → Answer.Refused 14 ≡ item_answer n c (withdrawing t)
   unfolding item_answer
   cut stamped e = rw (stamped, e)
 
   module _ (stamped : is_timestamp t ≡ true) (from : ltb t c.cutoff ≡ false) where
-    not-held : find t (history_of c) ≡ none → answer.Refused 10 ≡ item_answer n c (withdrawing t)
+    not-held : find t (history_of c) ≡ none → Answer.Refused 10 ≡ item_answer n c (withdrawing t)
     unfolding item_answer
     not-held e = rw (stamped, from, e)
 
     module _ {u : Change} (e : find t (history_of c) ≡ some u) where
-      already : withdrawn u ≡ true → answer.Refused 11 ≡ item_answer n c (withdrawing t)
+      already : withdrawn u ≡ true → Answer.Refused 11 ≡ item_answer n c (withdrawing t)
       unfolding item_answer
       already f = rw (stamped, from, e, f)
 
-      not_yet : withdrawn u ≡ false → answer.Done ≡ item_answer n c (withdrawing t)
+      not_yet : withdrawn u ≡ false → Answer.Done ≡ item_answer n c (withdrawing t)
       unfolding item_answer
       not_yet f = rw (stamped, from, e, f)
 
@@ -71,7 +71,7 @@ flag-zero false = (λ e. refl, λ f. absurd (f refl))
 -- ---- the replies
 
 -- the timestamp is below the cutoff
-pub cut-replied : {n : ℕ} {T : Tables} → Formed n T → (t : ℕ) → is_timestamp t ≡ true → ltb t (cutoff_in T) ≡ true → reply (answer.Refused 14) T ≡ item_call n T (withdrawing t)
+pub cut-replied : {n : ℕ} {T : Tables} → Formed n T → (t : ℕ) → is_timestamp t ≡ true → ltb t (cutoff_in T) ≡ true → reply (Answer.Refused 14) T ≡ item_call n T (withdrawing t)
 unfolding decode
 cut-replied {n} {T} g t stamped e = item-replied (withdrawing t) g (cut n (decode T) t stamped e) refl
 
@@ -81,7 +81,7 @@ module _ {n : ℕ} {T : Tables} (g : Formed n T) (t : ℕ) (stamped : is_timesta
   from = uncut
 
   -- the timestamp is not held
-  pub not-held-replied : position_in T t ≡ none → reply (answer.Refused 10) T ≡ item_call n T (withdrawing t)
+  pub not-held-replied : position_in T t ≡ none → reply (Answer.Refused 10) T ≡ item_call n T (withdrawing t)
   not-held-replied m = item-replied (withdrawing t) g (not-held n (decode T) t stamped from (position-none g t m)) refl
 
   module _ {k : ℕ} (m : position_in T t ≡ some k) where
@@ -89,10 +89,10 @@ module _ {n : ℕ} {T : Tables} (g : Formed n T) (t : ℕ) (stamped : is_timesta
     flag_at : get_or T.withdrawn (get_or T.order k 0) 0 ≡ flag_number (withdrawn (get_or (decode T).changes (get_or T.order k 0) blank))
     flag_at = ap (λ (U : Tables). get_or U.withdrawn (get_or T.order k 0) 0) (sym (facts g).laid) ∙ withdrawn-at n (decode T) (get_or T.order k 0)
 
-    pub already-replied : (get_or T.withdrawn (get_or T.order k 0) 0 ≡ 0 → ⊥) → reply (answer.Refused 11) T ≡ item_call n T (withdrawing t)
+    pub already-replied : (get_or T.withdrawn (get_or T.order k 0) 0 ≡ 0 → ⊥) → reply (Answer.Refused 11) T ≡ item_call n T (withdrawing t)
     already-replied f = item-replied (withdrawing t) g (already n (decode T) t stamped from (position-change g t k m) ((flag-zero _).1 (λ z. f (flag_at ∙ z)))) refl
 
-    pub done-replied : get_or T.withdrawn (get_or T.order k 0) 0 ≡ 0 → reply answer.Done (flagged_in T (get_or T.order k 0)) ≡ item_call n T (withdrawing t)
+    pub done-replied : get_or T.withdrawn (get_or T.order k 0) 0 ≡ 0 → reply Answer.Done (flagged_in T (get_or T.order k 0)) ≡ item_call n T (withdrawing t)
     done-replied z =
         let here = place_of g k in
         item-replied (withdrawing t) g (not_yet n (decode T) t stamped from (position-change g t k m) ((flag-zero _).0 (sym flag_at ∙ z)))

@@ -1,5 +1,5 @@
 -- `export_queries::tolbezun_standing` meets its contract: the number of what `standing` answers. Assumes nothing.
-use Rattle.model.specs.declared.Standing.{Standing}
+use Rattle.model.specs.Answers.{Standing}
 use Rattle.model.specs.Calls.{standing_given}
 use Rattle.answer_numbers.specs.Numbers.{standing_number}
 use Rattle.answer_numbers.proofs.Numbers.{of-call}

@@ -3,7 +3,7 @@ use mathlib.Core.Path.{◌∙◌}
 use borrow.Author.Rules.{sfits_of}
 use mir.Facts.{to_z-of_z}
 use mir.Syntax.{w64}
-use Rattle.model.specs.declared.Value.{Value}
+use Rattle.model.specs.Answers.{Value}
 use Rattle.model.specs.Calls.{value_given}
 use Rattle.answer_numbers.specs.Numbers.{value_number}
 use Rattle.answer_numbers.proofs.Numbers.{of-call}

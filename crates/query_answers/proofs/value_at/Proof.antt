@@ -6,7 +6,7 @@ use borrow.Author.Tests.{le-leb, lt-leb, lt-ltb, le-ltb, eq-eqb, ne_eqb}
 use mir.Facts.{to_z-of_z}
 use mir.Syntax.{w32}
 use Rattle.machine.specs.Settings.{setting_count}
-use Rattle.model.specs.declared.Value.TheVariants as value
+use Rattle.model.specs.Answers.{Value}
 use Rattle.search.proofs.Steps.{rank-within}
 use Rattle.query_answers.proofs.value_at.Statement.{statement}
 use Rattle.query_answers.proofs.value_at.Tie as tie
@@ -37,7 +37,7 @@ returns-4 c =
     let at-else2 : tie.Else-timestamp-cutoff = search in
     let at-else1 : tie.Else-timestamp-eq0 = search in
     let r : tie.After-rank-k = search in
-    ap value.Is (to_z-of_z {w = w32} (sfits_of c.value_below.type_inv) ∙ c.value_below.ensures)
+    ap Value.Is (to_z-of_z {w = w32} (sfits_of c.value_below.type_inv) ∙ c.value_below.ensures)
     ∙ rw (r.rank-k.ensures, ne_eqb _ 0 at-else1.if-timestamp-eq0.false, le-ltb _ _ at-else2.if-timestamp-cutoff.false, lt-leb setting_count _ at-else3.if-setting-ge1024.false)
 
 pub value_at_spec : {M : Type 1} → statement M

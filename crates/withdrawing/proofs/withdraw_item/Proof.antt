@@ -12,7 +12,7 @@ use Rattle.model.specs.History.{is_timestamp}
 use Rattle.model.specs.Tables.{Tables}
 use Rattle.model.specs.Package.{withdrawing}
 use Rattle.model.specs.Calls.{reply}
-use Rattle.model.specs.declared.Answer.TheVariants as answer
+use Rattle.model.specs.Answers.{Answer}
 use Rattle.model.proofs.Tests.{Lengths}
 use Rattle.model.proofs.Form.{facts}
 use Rattle.search.specs.Searches.{position_of}
@@ -115,7 +115,7 @@ returns-5 c =
     let i = get_or a.order.now f.in-At.k 0 in
     record {
       answered = λ T g.
-          ap (λ (s : ℕ). reply answer.Done (with_lent T a.held.now a.timestamps.now a.order.now (set a.status.now i s) (set a.withdrawn.now i 1) a.cutoff.now)) c.unsettled.ensures
+          ap (λ (s : ℕ). reply Answer.Done (with_lent T a.held.now a.timestamps.now a.order.now (set a.status.now i s) (set a.withdrawn.now i 1) a.cutoff.now)) c.unsettled.ensures
           ∙ done-replied g _ (stamped (searched f)) (from (searched f)) (at f T) e.if-withdrawn-place-ne0.false;
     }
 
