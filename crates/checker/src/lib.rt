@@ -2,11 +2,12 @@
 #![tactic(auto)]
 
 ghost use Rattle.std.specs.Prelude.{◌≡◌};
+ghost use Rattle.model.specs.Answers.{as_done, as_turned};
 ghost use Rattle.model.specs.Tables.{tables, with_turn};
 ghost use Rattle.model.specs.Calls.{reply, turn, totals_reply, drain_with_totals};
 
 use drains::turn_all;
-use model::{Answer, Turned};
+use model::{Refusal, Turn};
 use single_turn::turn_once;
 use tables::form::fault;
 use tables::held_count;
@@ -32,28 +33,25 @@ pub fn turn(
     versions: &[u16],
     cutoff: &[u64],
     kept: &[i32],
-) -> Turned
+) -> Result<Turn, Refusal>
     ensures { let T =
         tables held.now timestamps.now order.now status.old withdrawn.now
         lengths.now programs.now reads.old writes.old sources.old
         seen.old targets.old written.old view.old versions.now cutoff.now kept.now in
-        reply result
+        reply (as_turned result)
         (with_turn T status.new reads.new writes.new sources.new seen.new
         targets.new written.new view.new)
         ≡ turn n T }
 {
-    let refusal = fault(
+    fault(
         n, held, timestamps, order, status, withdrawn, lengths, programs, reads, writes, sources,
         seen, targets, written, view, versions, cutoff, kept,
-    );
-    if refusal != 0 {
-        return Turned::Refused(refusal);
-    }
+    )?;
     let count = held_count(held);
-    turn_once(
+    Ok(turn_once(
         count, timestamps, order, status, withdrawn, lengths, programs, reads, writes, sources,
         seen, targets, written, view, versions, kept,
-    )
+    ))
 }
 
 // Turns until idle, and for each console how many ran, stood, were cleared and faulted.
@@ -77,32 +75,29 @@ pub fn drain(
     cutoff: &[u64],
     kept: &[i32],
     totals: &mut [u16],
-) -> Answer
+) -> Result<(), Refusal>
     ensures { let T =
         tables held.now timestamps.now order.now status.old withdrawn.now
         lengths.now programs.now reads.old writes.old sources.old
         seen.old targets.old written.old view.old versions.now cutoff.now kept.now in
-        totals_reply result
+        totals_reply (as_done result)
         (with_turn T status.new reads.new writes.new sources.new seen.new
         targets.new written.new view.new)
         totals.new
         ≡ drain_with_totals n T totals.old }
 {
     if totals.len() != 1024 {
-        return Answer::Refused(1);
+        return Err(Refusal::WrongLengths);
     }
-    let refusal = fault(
+    fault(
         n, held, timestamps, order, status, withdrawn, lengths, programs, reads, writes, sources,
         seen, targets, written, view, versions, cutoff, kept,
-    );
-    if refusal != 0 {
-        return Answer::Refused(refusal);
-    }
+    )?;
     clear_u16(totals);
     let count = held_count(held);
     turn_all(
         count, timestamps, order, status, withdrawn, lengths, programs, reads, writes, sources,
         seen, targets, written, view, versions, kept, totals,
     );
-    Answer::Done
+    Ok(())
 }

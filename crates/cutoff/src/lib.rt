@@ -2,13 +2,15 @@
 #![tactic(auto)]
 
 ghost use Rattle.std.specs.Prelude.{◌≡◌};
+ghost use Rattle.model.specs.Answers.{as_done};
 ghost use Rattle.model.specs.Tables.{tables, with_cutoff};
 ghost use Rattle.model.specs.Calls.{reply, raise_cutoff};
 
 use closing::{close_blocks, close_columns};
-use cutoff_refusal::cutoff_refusal;
+use cutoff_tests::refusal_of;
 use dropping::drop_changes;
-use model::Answer;
+use model::Refusal;
+use tables::form::fault;
 
 pub fn raise_cutoff(
     n: usize,
@@ -30,26 +32,24 @@ pub fn raise_cutoff(
     cutoff: &mut [u64],
     kept: &mut [i32],
     timestamp: u64,
-) -> Answer
+) -> Result<(), Refusal>
     ensures { let T =
         tables held.old timestamps.old order.old status.old
         withdrawn.old lengths.old programs.old reads.old
         writes.old sources.old seen.old targets.old written.old
         view.now versions.old cutoff.old kept.old in
-        reply result
+        reply (as_done result)
         (with_cutoff T held.new timestamps.new order.new status.new
         withdrawn.new lengths.new programs.new reads.new writes.new
         sources.new seen.new targets.new written.new versions.new
         cutoff.new kept.new)
         ≡ raise_cutoff n T timestamp }
 {
-    let refused = cutoff_refusal(
+    fault(
         n, held, timestamps, order, status, withdrawn, lengths, programs, reads, writes, sources,
-        seen, targets, written, view, versions, cutoff, kept, timestamp,
-    );
-    if refused != 0 {
-        return Answer::Refused(refused);
-    }
+        seen, targets, written, view, versions, cutoff, kept,
+    )?;
+    refusal_of(timestamp, held, timestamps, order, status, cutoff)?;
     let mut places = [0u16; 4096];
     let found = drop_changes(
         timestamp,
@@ -67,5 +67,5 @@ pub fn raise_cutoff(
         found, &places, timestamps, status, withdrawn, lengths, reads, writes, versions,
     );
     close_blocks(found, &places, programs, sources, seen, targets, written);
-    Answer::Done
+    Ok(())
 }

@@ -18,11 +18,6 @@ cutoff_tests t held timestamps order status cutoff =
     ∷ test 15 (waits_before (waiting_of order status count) (rank_of order timestamps t count))
     ∷ []
 
--- the first of them that applies, unless the tables have a fault
-unfoldable pub refusal_in : ℕ → ℕ → List ℕ → List ℕ → List ℕ → List ℕ → List ℕ → ℕ
-refusal_in fault t held timestamps order status cutoff =
-    cond (eqb fault 0) (first_of (cutoff_tests t held timestamps order status cutoff)) fault
-
 -- the tests can be made
 pub record Testable (held timestamps order status cutoff : List ℕ) : Type 0 where
   pub counted : length held ≡ 1

@@ -2,43 +2,41 @@
 #![tactic(auto)]
 
 ghost use Rattle.std.specs.Prelude.{◌≡◌};
-ghost use Rattle.cutoff_tests.specs.CutoffTests.{refusal_in, Testable};
+ghost use Rattle.model.specs.Answers.{number_in};
+ghost use Rattle.model.specs.Refusals.{first_of};
+ghost use Rattle.cutoff_tests.specs.CutoffTests.{cutoff_tests, Testable};
 
+use model::Refusal;
 use search::{Found, rank, waiting};
 use tables::held_count;
 use timestamps::is_timestamp;
 
-// The refusal of a cutoff: that of the tables, if they have one, else 4, 14 or 15, or 0 where there is none.
+// The refusal of a cutoff: 4, 14 or 15, where one applies.
 pub fn refusal_of(
-    fault: u8,
     timestamp: u64,
     held: &[u16],
     timestamps: &[u64],
     order: &[u16],
     status: &[u16],
     cutoff: &[u64],
-) -> u8
-    requires { fault ≡ 0 → Testable held.now timestamps.now order.now status.now cutoff.now }
-    ensures { result
-        ≡ refusal_in fault timestamp held.now timestamps.now order.now status.now
-        cutoff.now }
+) -> Result<(), Refusal>
+    requires { Testable held.now timestamps.now order.now status.now cutoff.now }
+    ensures { number_in result
+        ≡ first_of (cutoff_tests timestamp held.now timestamps.now order.now status.now cutoff.now) }
 {
-    if fault != 0 {
-        return fault;
-    }
     if !is_timestamp(timestamp) {
-        return 4;
+        return Err(Refusal::NoTimestamp);
     }
     if timestamp < cutoff[0] {
-        return 14;
+        return Err(Refusal::BelowCutoff);
     }
     let count = held_count(held);
     let first = rank(timestamp, count, order, timestamps);
     let found = waiting(count, order, status);
     if let Found::At(k) = found {
         if k < first {
-            return 15;
+            return Err(Refusal::UnsettledBelow);
         }
     }
-    0
+    Ok(())
 }

@@ -2,12 +2,13 @@
 #![tactic(auto)]
 
 ghost use Rattle.std.specs.Prelude.{◌+◌, ◌<◌};
+ghost use Rattle.model.specs.Answers.{as_turn};
 ghost use Rattle.model.specs.Tables.{Tables, with_turn};
 ghost use Rattle.turns.specs.Turns.{with_lent, WithSome, Going};
 ghost use Rattle.drain_steps.specs.Passed.{Passed};
 
 use carrying::carry_place;
-use model::Turned;
+use model::Turn;
 use turns::turn_at;
 
 // A drain's step: the change at position k is passed over where it is Valid, and has its turn where it is not.
@@ -35,7 +36,7 @@ pub fn pass_at(
     readers: &mut [u16; 1024],
     writers: &mut [u16; 1024],
     settled: &mut [u16; 1024],
-) -> Turned
+) -> Turn
     requires { (k < count)
         × WithSome (λ T. Going k
         (with_lent T count timestamps.now order.now status.old withdrawn.now lengths.now programs.now reads.old
@@ -51,14 +52,14 @@ pub fn pass_at(
         targets.new written.new view.new in
         Going k L known.old before.old after.old readers.old writers.old
         settled.old →
-        Passed result L U
+        Passed (as_turn result) L U
         × Going (k + 1) U known.new before.new after.new readers.new writers.new
         settled.new }
 {
     let place = order[k] as usize;
     if status[place] == 1 {
         carry_place(place, writes, targets, written, before, after);
-        return Turned::Idle;
+        return Turn::Idle;
     }
     turn_at(
         true, k, count, timestamps, order, status, withdrawn, lengths, programs, reads, writes,

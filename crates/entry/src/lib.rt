@@ -1,11 +1,12 @@
 // One entry of a package, carried out on tables in form.
 #![tactic(auto)]
 
+ghost use Rattle.model.specs.Answers.{as_answer};
 ghost use Rattle.model.specs.Package.{item_at};
 ghost use Rattle.tables.specs.Parts.{ItemAnswered};
 ghost use Rattle.entry.specs.Entry.{with_lent, EntryReady};
 
-use model::Answer;
+use model::{Outcome, Refusal};
 use packages::{count_at, kind_at, timestamp_at, version_at};
 use taking::take_item;
 use withdrawing::withdraw_item;
@@ -24,7 +25,7 @@ pub fn take_entry(
     bytes: &[u8],
     j: usize,
     body: usize,
-) -> Answer
+) -> Result<Outcome, Refusal>
     requires { EntryReady bytes.now j body
         (λ T. with_lent T held.old timestamps.old order.old status.old withdrawn.old lengths.old programs.old versions.old cutoff.now) }
     ensures { ItemAnswered
@@ -34,7 +35,7 @@ pub fn take_entry(
         (λ T.
         with_lent T held.new timestamps.new order.new status.new
         withdrawn.new lengths.new programs.new versions.new cutoff.now)
-        (item_at bytes.now j) result }
+        (item_at bytes.now j) (as_answer result) }
 {
     let t = timestamp_at(bytes, j);
     if kind_at(bytes, j) == 0 {
@@ -52,5 +53,6 @@ pub fn take_entry(
             &bytes[body..end],
         );
     }
-    withdraw_item(held, timestamps, order, status, withdrawn, cutoff, t)
+    withdraw_item(held, timestamps, order, status, withdrawn, cutoff, t)?;
+    Ok(Outcome::Done)
 }

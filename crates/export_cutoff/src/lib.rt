@@ -6,7 +6,7 @@ ghost use Rattle.model.specs.Tables.{tables, with_cutoff};
 ghost use Rattle.model.specs.Calls.{answer_number, reply, raise_cutoff};
 ghost use Rattle.answer_numbers.specs.Numbers.{answering};
 
-use answer_numbers::answer_number;
+use answer_numbers::done_number;
 use cutoff::raise_cutoff;
 
 // The cutoff raised to a timestamp: 0 done, else the refusal.
@@ -44,7 +44,7 @@ pub extern "C" fn tolbezun_cutoff(
         cutoff.new kept.new)
         ≡ answering answer_number (raise_cutoff n T timestamp) }
 {
-    answer_number(raise_cutoff(
+    done_number(raise_cutoff(
         n, held, timestamps, order, status, withdrawn, lengths, programs, reads, writes, sources,
         seen, targets, written, view, versions, cutoff, kept, timestamp,
     ))

@@ -7,7 +7,7 @@ ghost use Rattle.model.specs.Tables.{tables, with_taking, with_withdrawing, with
 ghost use Rattle.model.specs.Calls.{answer_number, reply, take_in, withdraw, take_in_package};
 ghost use Rattle.answer_numbers.specs.Numbers.{answering, numbered, package_numbers};
 
-use answer_numbers::answer_number;
+use answer_numbers::{answer_number, done_number};
 use intake::{take_in, take_in_package, withdraw};
 
 // Taking in: the number of its answer.
@@ -80,7 +80,7 @@ pub extern "C" fn tolbezun_withdraw(
         (with_withdrawing T status.new withdrawn.new)
         ≡ answering answer_number (withdraw n T timestamp) }
 {
-    answer_number(withdraw(
+    done_number(withdraw(
         n, held, timestamps, order, status, withdrawn, lengths, programs, reads, writes, sources,
         seen, targets, written, view, versions, cutoff, kept, timestamp,
     ))
@@ -119,7 +119,7 @@ pub extern "C" fn tolbezun_take_in_package(
         withdrawn.new lengths.new programs.new versions.new)
         ≡ package_numbers (take_in_package n T bytes.now answers.old) }
 {
-    answer_number(take_in_package(
+    done_number(take_in_package(
         n, held, timestamps, order, status, withdrawn, lengths, programs, reads, writes, sources,
         seen, targets, written, view, versions, cutoff, kept, bytes, answers,
     ))

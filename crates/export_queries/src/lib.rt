@@ -6,7 +6,7 @@ ghost use Rattle.model.specs.Tables.{tables};
 ghost use Rattle.model.specs.Calls.{value_given, standing_given, current_value, value_as_of, standing, plain_run, start_values, package_out};
 ghost use Rattle.answer_numbers.specs.Numbers.{value_number, standing_number, numbered, plain_numbers, packed_numbers};
 
-use answer_numbers::{answer_number, packed_number, standing_number, value_number};
+use answer_numbers::{done_number, packed_number, standing_number, value_number};
 use package_out::package_out;
 use queries::{current_value, plain_run, standing, start_values, value_as_of};
 
@@ -145,7 +145,7 @@ pub extern "C" fn tolbezun_plain_run(
         seen.now targets.now written.now view.now versions.now cutoff.now kept.now in
         numbered result settings.new ≡ plain_numbers (plain_run n T settings.old) }
 {
-    answer_number(plain_run(
+    done_number(plain_run(
         n, held, timestamps, order, status, withdrawn, lengths, programs, reads, writes, sources,
         seen, targets, written, view, versions, cutoff, kept, settings,
     ))
@@ -191,5 +191,5 @@ pub extern "C" fn tolbezun_package_out(
 pub extern "C" fn tolbezun_start_values(settings: &mut [i32]) -> u8
     ensures { numbered result settings.new ≡ plain_numbers (start_values settings.old) }
 {
-    answer_number(start_values(settings))
+    done_number(start_values(settings))
 }

@@ -6,7 +6,7 @@ ghost use Rattle.model.specs.Tables.{tables};
 ghost use Rattle.model.specs.Calls.{answer_number, reply, set_up};
 ghost use Rattle.answer_numbers.specs.Numbers.{answering};
 
-use answer_numbers::answer_number;
+use answer_numbers::done_number;
 use setup::set_up;
 
 // Set up: the number of its answer.
@@ -41,7 +41,7 @@ pub extern "C" fn tolbezun_set_up(
         seen.new targets.new written.new view.new versions.new cutoff.new kept.new)
         ≡ answering answer_number (set_up n T) }
 {
-    answer_number(set_up(
+    done_number(set_up(
         n, held, timestamps, order, status, withdrawn, lengths, programs, reads, writes, sources,
         seen, targets, written, view, versions, cutoff, kept,
     ))

@@ -6,7 +6,7 @@ ghost use Rattle.model.specs.Tables.{tables, with_turn};
 ghost use Rattle.model.specs.Calls.{reply, drain_with_totals};
 ghost use Rattle.answer_numbers.specs.Numbers.{numbered, totals_numbers, turn_numbers};
 
-use answer_numbers::{answer_number, put_turned};
+use answer_numbers::{done_number, put_turned};
 use checker::{drain, turn};
 
 // One turn: the number of its answer. `values` has two entries, which get the timestamp of the change whose turn it was and the place where it faulted.
@@ -83,7 +83,7 @@ pub extern "C" fn tolbezun_drain(
         targets.new written.new view.new)
         ≡ totals_numbers (drain_with_totals n T totals.old) }
 {
-    answer_number(drain(
+    done_number(drain(
         n, held, timestamps, order, status, withdrawn, lengths, programs, reads, writes, sources,
         seen, targets, written, view, versions, cutoff, kept, totals,
     ))

@@ -3,10 +3,11 @@
 
 ghost use Rattle.std.specs.Prelude.{◌≡◌};
 ghost use Rattle.machine.specs.Instruction.{code};
+ghost use Rattle.model.specs.Answers.{as_answer, as_done};
 ghost use Rattle.model.specs.Tables.{tables, with_taking, with_withdrawing};
 ghost use Rattle.model.specs.Calls.{reply, take_in, withdraw};
 
-use model::Answer;
+use model::{Outcome, Refusal};
 pub use package_intake::take_in_package;
 use tables::form::fault;
 use taking::take_item;
@@ -35,21 +36,18 @@ pub fn take_in(
     timestamp: u64,
     version: u16,
     program: &[u8],
-) -> Answer
+) -> Result<Outcome, Refusal>
     ensures { let T =
         tables held.old timestamps.old order.old status.now withdrawn.now
         lengths.old programs.old reads.now writes.now sources.now
         seen.now targets.now written.now view.now versions.old cutoff.now kept.now in
-        reply result (with_taking T held.new timestamps.new order.new lengths.new programs.new versions.new)
+        reply (as_answer result) (with_taking T held.new timestamps.new order.new lengths.new programs.new versions.new)
         ≡ take_in n T timestamp (code version program.now) }
 {
-    let refusal = fault(
+    fault(
         n, held, timestamps, order, status, withdrawn, lengths, programs, reads, writes, sources,
         seen, targets, written, view, versions, cutoff, kept,
-    );
-    if refusal != 0 {
-        return Answer::Refused(refusal);
-    }
+    )?;
     take_item(
         held, timestamps, order, lengths, programs, versions, cutoff, timestamp, version, program,
     )
@@ -76,21 +74,18 @@ pub fn withdraw(
     cutoff: &[u64],
     kept: &[i32],
     timestamp: u64,
-) -> Answer
+) -> Result<(), Refusal>
     ensures { let T =
         tables held.now timestamps.now order.now status.old withdrawn.old
         lengths.now programs.now reads.now writes.now sources.now
         seen.now targets.now written.now view.now versions.now cutoff.now kept.now in
-        reply result (with_withdrawing T status.new withdrawn.new)
+        reply (as_done result) (with_withdrawing T status.new withdrawn.new)
         ≡ withdraw n T timestamp }
 {
-    let refusal = fault(
+    fault(
         n, held, timestamps, order, status, withdrawn, lengths, programs, reads, writes, sources,
         seen, targets, written, view, versions, cutoff, kept,
-    );
-    if refusal != 0 {
-        return Answer::Refused(refusal);
-    }
+    )?;
     withdraw_item(
         held, timestamps, order, status, withdrawn, cutoff, timestamp,
     )

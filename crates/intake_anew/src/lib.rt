@@ -2,11 +2,12 @@
 #![tactic(auto)]
 
 ghost use Rattle.std.specs.Prelude.{◌≡◌};
+ghost use Rattle.model.specs.Answers.{as_done};
 ghost use Rattle.model.specs.Tables.{tables};
 ghost use Rattle.model.specs.Calls.{package_reply, set_up, take_in_package};
 
 use intake::take_in_package;
-use model::Answer;
+use model::Refusal;
 use setup::set_up;
 
 // The answer to a package that is taken in on tables just set up.
@@ -31,12 +32,12 @@ pub fn take_in_anew(
     cutoff: &mut [u64],
     kept: &mut [i32],
     answers: &mut [u8],
-) -> Answer
+) -> Result<(), Refusal>
     ensures { let T =
         tables held.old timestamps.old order.old status.old withdrawn.old
         lengths.old programs.old reads.old writes.old sources.old
         seen.old targets.old written.old view.old versions.old cutoff.old kept.old in
-        package_reply result
+        package_reply (as_done result)
         (tables held.new timestamps.new order.new status.new withdrawn.new
         lengths.new programs.new reads.new writes.new sources.new
         seen.new targets.new written.new view.new versions.new cutoff.new kept.new)
@@ -46,7 +47,7 @@ pub fn take_in_anew(
     set_up(
         n, held, timestamps, order, status, withdrawn, lengths, programs, reads, writes, sources,
         seen, targets, written, view, versions, cutoff, kept,
-    );
+    )?;
     take_in_package(
         n, held, timestamps, order, status, withdrawn, lengths, programs, reads, writes, sources,
         seen, targets, written, view, versions, cutoff, kept, bytes, answers,

@@ -4,33 +4,34 @@
 ghost use Rattle.std.specs.Prelude.{◌≡◌, ◌*◌, ◌<◌, ◌≤◌, length, get_or};
 ghost use Rattle.machine.specs.Instruction.{code};
 ghost use Rattle.model.specs.Tables.{code_in};
+ghost use Rattle.model.specs.Answers.{number_in, as_answer};
 ghost use Rattle.model.specs.Refusals.{first_of, same_bytes};
 ghost use Rattle.item_tests.specs.ItemTests.{argument_tests, compared_answer};
 
 use bytecode::form::{length_fits, well_formed};
-use model::Answer;
+use model::{Outcome, Refusal};
 use timestamps::is_timestamp;
 
-// The refusal of a timestamp, a version and a program by themselves, where the cutoff is given: 4, 14, 6, 13 or 7, or 0 where there is none.
-pub fn refusal_of(cutoff: u64, timestamp: u64, version: u16, program: &[u8]) -> u8
-    ensures { result ≡ first_of (argument_tests cutoff timestamp (code version program.now)) }
+// The refusal of a timestamp, a version and a program by themselves, where the cutoff is given: 4, 14, 6, 13 or 7, where one applies.
+pub fn refusal_of(cutoff: u64, timestamp: u64, version: u16, program: &[u8]) -> Result<(), Refusal>
+    ensures { number_in result ≡ first_of (argument_tests cutoff timestamp (code version program.now)) }
 {
     if !is_timestamp(timestamp) {
-        return 4;
+        return Err(Refusal::NoTimestamp);
     }
     if timestamp < cutoff {
-        return 14;
+        return Err(Refusal::BelowCutoff);
     }
     if !length_fits(program) {
-        return 6;
+        return Err(Refusal::WrongProgramLength);
     }
     if 1 < version {
-        return 13;
+        return Err(Refusal::NoVersion);
     }
     if !well_formed(program) {
-        return 7;
+        return Err(Refusal::Malformed);
     }
-    0
+    Ok(())
 }
 
 // Whether two lists are the same bytes.
@@ -58,16 +59,16 @@ pub fn compare(
     versions: &[u16],
     version: u16,
     program: &[u8],
-) -> Answer
+) -> Result<Outcome, Refusal>
     requires { (place < length lengths.now) × (length programs.now ≡ 256 * length lengths.now) × (get_or lengths.now place 0 ≤ 32) × (length versions.now ≡ length lengths.now) }
-    ensures { result
+    ensures { as_answer result
         ≡ compared_answer (code_in lengths.now programs.now versions.now place)
         (code version program.now) }
 {
     let start = 256 * place;
     let end = start + 8 * (lengths[place] as usize);
     if (versions[place] == version) & same_bytes(&programs[start..end], program) {
-        return Answer::Held;
+        return Ok(Outcome::Held);
     }
-    Answer::Refused(8)
+    Err(Refusal::HeldOtherwise)
 }

@@ -3,10 +3,10 @@
 
 ghost use Rattle.std.specs.Prelude.{◌+◌, ◌≤◌, length};
 ghost use Rattle.text.specs.Pieces.{Put};
-ghost use Rattle.model.specs.declared.Turned.TheVariants.{Faulted};
+ghost use Rattle.model.specs.Answers.{Faulted, as_turn};
 ghost use Rattle.lines.specs.Lines.{package_line, outcome, entry_line, turn_of, turn_line, setting_line};
 
-use model::Turned;
+use model::Turn;
 use text::{put, put_number, put_signed};
 
 // The line of a package that is refused.
@@ -78,18 +78,17 @@ fn put_fault(timestamp: u64, place: usize, text: &mut [u8], at: usize) -> usize
 }
 
 // The line of a turn. An idle one has none.
-pub fn put_turn(answer: Turned, text: &mut [u8], at: usize) -> usize
+pub fn put_turn(turn: Turn, text: &mut [u8], at: usize) -> usize
     requires { at + 64 ≤ length text.old }
-    ensures put { Put at (turn_line answer) text.old text.new result }
+    ensures put { Put at (turn_line (as_turn turn)) text.old text.new result }
     ensures upper_bound { result ≤ at + 64 }
 {
-    match answer {
-        Turned::Idle => at,
-        Turned::Ran(timestamp) => put_turn_of(timestamp, b" ran", text, at),
-        Turned::Stood(timestamp) => put_turn_of(timestamp, b" stood", text, at),
-        Turned::Cleared(timestamp) => put_turn_of(timestamp, b" cleared", text, at),
-        Turned::Faulted(timestamp, place) => put_fault(timestamp, place, text, at),
-        Turned::Refused(_) => at,
+    match turn {
+        Turn::Idle => at,
+        Turn::Ran(timestamp) => put_turn_of(timestamp, b" ran", text, at),
+        Turn::Stood(timestamp) => put_turn_of(timestamp, b" stood", text, at),
+        Turn::Cleared(timestamp) => put_turn_of(timestamp, b" cleared", text, at),
+        Turn::Faulted(timestamp, place) => put_fault(timestamp, place, text, at),
     }
 }
 

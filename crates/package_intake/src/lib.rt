@@ -2,12 +2,13 @@
 #![tactic(auto)]
 
 ghost use Rattle.std.specs.Prelude.{◌≡◌};
+ghost use Rattle.model.specs.Answers.{as_done};
 ghost use Rattle.model.specs.Tables.{tables, with_package};
 ghost use Rattle.model.specs.Calls.{package_reply, take_in_package};
 
 use entries::take_entries;
-use model::Answer;
-use packages::refusal_with;
+use model::Refusal;
+use packages::layout_fits;
 use tables::form::fault;
 
 // Taking in a package: each entry taken in or withdrawn, in order. Form is tested once.
@@ -32,31 +33,31 @@ pub fn take_in_package(
     kept: &[i32],
     bytes: &[u8],
     answers: &mut [u8],
-) -> Answer
+) -> Result<(), Refusal>
     ensures { let T =
         tables held.old timestamps.old order.old status.old withdrawn.old
         lengths.old programs.old reads.now writes.now sources.now
         seen.now targets.now written.now view.now versions.old cutoff.now kept.now in
-        package_reply result
+        package_reply (as_done result)
         (with_package T held.new timestamps.new order.new status.new
         withdrawn.new lengths.new programs.new versions.new)
         answers.new
         ≡ take_in_package n T bytes.now answers.old }
 {
     if answers.len() != 512 {
-        return Answer::Refused(1);
+        return Err(Refusal::WrongLengths);
     }
-    let of_tables = fault(
+    fault(
         n, held, timestamps, order, status, withdrawn, lengths, programs, reads, writes, sources,
         seen, targets, written, view, versions, cutoff, kept,
-    );
-    let refusal = refusal_with(of_tables, bytes);
-    if refusal != 0 {
-        return Answer::Refused(refusal);
+    )?;
+    let laid_out = layout_fits(bytes);
+    if !laid_out {
+        return Err(Refusal::NotLaidOut);
     }
     take_entries(
         held, timestamps, order, status, withdrawn, lengths, programs, versions, cutoff, bytes,
         answers,
     );
-    Answer::Done
+    Ok(())
 }

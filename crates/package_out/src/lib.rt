@@ -2,10 +2,11 @@
 #![tactic(auto)]
 
 ghost use Rattle.std.specs.Prelude.{◌≡◌};
+ghost use Rattle.model.specs.Answers.{as_packed};
 ghost use Rattle.model.specs.Tables.{tables};
 ghost use Rattle.model.specs.Calls.{packed_reply, package_out};
 
-use model::Packed;
+use model::Refusal;
 use packing::put_package;
 use tables::form::fault;
 use tables::held_count;
@@ -31,20 +32,17 @@ pub fn package_out(
     cutoff: &[u64],
     kept: &[i32],
     bytes: &mut [u8],
-) -> Packed
+) -> Result<u16, Refusal>
     ensures { let T =
         tables held.now timestamps.now order.now status.now withdrawn.now
         lengths.now programs.now reads.now writes.now sources.now
         seen.now targets.now written.now view.now versions.now cutoff.now kept.now in
-        packed_reply result bytes.new ≡ package_out n T bytes.old }
+        packed_reply (as_packed result) bytes.new ≡ package_out n T bytes.old }
 {
-    let refusal = fault(
+    fault(
         n, held, timestamps, order, status, withdrawn, lengths, programs, reads, writes, sources,
         seen, targets, written, view, versions, cutoff, kept,
-    );
-    if refusal != 0 {
-        return Packed::Refused(refusal);
-    }
+    )?;
     let count = held_count(held);
     put_package(
         count, order, timestamps, withdrawn, lengths, programs, versions, bytes,

@@ -1,9 +1,8 @@
-// The layout of a package (refusal 3), and the parts of its entries.
+// The layout of a package, and the parts of its entries.
 #![tactic(auto)]
 
 ghost use Rattle.std.specs.Prelude.{◌≡◌, ◌&&◌, ◌+◌, ◌*◌, ◌<◌, ◌≤◌, eqb, length};
 ghost use Rattle.general.specs.Lists.{all_below};
-ghost use Rattle.packages.specs.Refusal.{refusal_with};
 ghost use Rattle.model.specs.Package.{number_at, entry_count, entry_at, stamp_of, kind_of, count_of, version_of, entry_fits, count_before, layout_fits};
 
 // The number in size bytes at i, low byte first.
@@ -102,7 +101,7 @@ fn bodies_fit(bytes: &[u8], count: usize) -> bool
 }
 
 // Whether the bytes are laid out as a package: not refusal 3.
-fn layout_fits(bytes: &[u8]) -> bool
+pub fn layout_fits(bytes: &[u8]) -> bool
     ensures { result ≡ layout_fits bytes.now }
 {
     let length = bytes.len();
@@ -117,19 +116,4 @@ fn layout_fits(bytes: &[u8]) -> bool
         return false;
     }
     bodies_fit(bytes, count)
-}
-
-// The refusal of a package, where that of the tables themselves, 1 or 2, is known: it comes first, then 3. 0 is none.
-pub fn refusal_with(fault: u8, bytes: &[u8]) -> u8
-    ensures { result ≡ refusal_with fault bytes.now }
-{
-    if fault != 0 {
-        return fault;
-    }
-    let fits = layout_fits(bytes);
-    let wrong = !fits;
-    if wrong {
-        return 3;
-    }
-    0
 }

@@ -2,11 +2,12 @@
 #![tactic(auto)]
 
 ghost use Rattle.std.specs.Prelude.{◌≡◌};
+ghost use Rattle.model.specs.Answers.{as_packed};
 ghost use Rattle.model.specs.Calls.{packed_reply};
 ghost use Rattle.packing.specs.Packing.{packed_in};
 ghost use Rattle.packing.specs.Lent.{HeldParts};
 
-use model::Packed;
+use model::Refusal;
 use package_entries::put_little_endian;
 use package_parts::{put_bodies, put_changes, put_withdrawals, total};
 
@@ -20,9 +21,9 @@ pub fn put_package(
     programs: &[u8],
     versions: &[u16],
     bytes: &mut [u8],
-) -> Packed
+) -> Result<u16, Refusal>
     requires { HeldParts count order.now timestamps.now withdrawn.now lengths.now programs.now versions.now }
-    ensures { packed_reply result bytes.new
+    ensures { packed_reply (as_packed result) bytes.new
         ≡ packed_in order.now timestamps.now withdrawn.now lengths.now
         programs.now versions.now count bytes.old }
 {
@@ -30,11 +31,11 @@ pub fn put_package(
     let size = 2 + 12 * entries + 8 * total(count, order, lengths);
     let room = bytes.len();
     if !((entries <= 512) & (size <= 65535) & (size <= room)) {
-        return Packed::Refused(12);
+        return Err(Refusal::NoRoom);
     }
     let mut end = put_little_endian(entries as u64, 2, bytes, 0);
     end = put_changes(count, order, timestamps, lengths, versions, bytes, end);
     end = put_withdrawals(count, order, timestamps, withdrawn, bytes, end);
     end = put_bodies(count, order, lengths, programs, bytes, end);
-    Packed::Length(end as u16)
+    Ok(end as u16)
 }

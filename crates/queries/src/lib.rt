@@ -3,10 +3,11 @@
 
 ghost use Rattle.std.specs.Prelude.{◌≡◌};
 ghost use Rattle.model.specs.Tables.{tables};
+ghost use Rattle.model.specs.Answers.{as_done, as_value, as_standing};
 ghost use Rattle.model.specs.Calls.{current_value, value_as_of, standing, plain_reply, plain_run};
 
 use fresh::{fill_from, run_held};
-use model::{Answer, Standing, Value};
+use model::{Refusal, Standing};
 pub use query_answers::start_values;
 use query_answers::{setting_value, standing_at, value_at};
 use tables::form::fault;
@@ -33,20 +34,17 @@ pub fn current_value(
     cutoff: &[u64],
     kept: &[i32],
     setting: usize,
-) -> Value
+) -> Result<i32, Refusal>
     ensures { let T =
         tables held.now timestamps.now order.now status.now withdrawn.now
         lengths.now programs.now reads.now writes.now sources.now
         seen.now targets.now written.now view.now versions.now cutoff.now kept.now in
-        result ≡ current_value n T setting }
+        as_value result ≡ current_value n T setting }
 {
-    let refusal = fault(
+    fault(
         n, held, timestamps, order, status, withdrawn, lengths, programs, reads, writes, sources,
         seen, targets, written, view, versions, cutoff, kept,
-    );
-    if refusal != 0 {
-        return Value::Refused(refusal);
-    }
+    )?;
     setting_value(view, setting)
 }
 
@@ -72,20 +70,17 @@ pub fn value_as_of(
     kept: &[i32],
     timestamp: u64,
     setting: usize,
-) -> Value
+) -> Result<i32, Refusal>
     ensures { let T =
         tables held.now timestamps.now order.now status.now withdrawn.now
         lengths.now programs.now reads.now writes.now sources.now
         seen.now targets.now written.now view.now versions.now cutoff.now kept.now in
-        result ≡ value_as_of n T timestamp setting }
+        as_value result ≡ value_as_of n T timestamp setting }
 {
-    let refusal = fault(
+    fault(
         n, held, timestamps, order, status, withdrawn, lengths, programs, reads, writes, sources,
         seen, targets, written, view, versions, cutoff, kept,
-    );
-    if refusal != 0 {
-        return Value::Refused(refusal);
-    }
+    )?;
     let count = held_count(held);
     value_at(
         cutoff[0], timestamp, setting, count, order, timestamps, writes, targets, written, kept,
@@ -113,20 +108,17 @@ pub fn standing(
     cutoff: &[u64],
     kept: &[i32],
     timestamp: u64,
-) -> Standing
+) -> Result<Standing, Refusal>
     ensures { let T =
         tables held.now timestamps.now order.now status.now withdrawn.now
         lengths.now programs.now reads.now writes.now sources.now
         seen.now targets.now written.now view.now versions.now cutoff.now kept.now in
-        result ≡ standing n T timestamp }
+        as_standing result ≡ standing n T timestamp }
 {
-    let refusal = fault(
+    fault(
         n, held, timestamps, order, status, withdrawn, lengths, programs, reads, writes, sources,
         seen, targets, written, view, versions, cutoff, kept,
-    );
-    if refusal != 0 {
-        return Standing::Refused(refusal);
-    }
+    )?;
     let count = held_count(held);
     standing_at(
         cutoff[0], timestamp, count, order, timestamps, status, withdrawn,
@@ -154,23 +146,20 @@ pub fn plain_run(
     cutoff: &[u64],
     kept: &[i32],
     settings: &mut [i32],
-) -> Answer
+) -> Result<(), Refusal>
     ensures { let T =
         tables held.now timestamps.now order.now status.now withdrawn.now
         lengths.now programs.now reads.now writes.now sources.now
         seen.now targets.now written.now view.now versions.now cutoff.now kept.now in
-        plain_reply result settings.new ≡ plain_run n T settings.old }
+        plain_reply (as_done result) settings.new ≡ plain_run n T settings.old }
 {
     if settings.len() != 1024 {
-        return Answer::Refused(1);
+        return Err(Refusal::WrongLengths);
     }
-    let refusal = fault(
+    fault(
         n, held, timestamps, order, status, withdrawn, lengths, programs, reads, writes, sources,
         seen, targets, written, view, versions, cutoff, kept,
-    );
-    if refusal != 0 {
-        return Answer::Refused(refusal);
-    }
+    )?;
     let count = held_count(held);
     let mut values = [0i32; 1024];
     fill_from(kept, &mut values);
@@ -184,5 +173,5 @@ pub fn plain_run(
         &mut values,
     );
     fill_from(&values, settings);
-    Answer::Done
+    Ok(())
 }

@@ -2,26 +2,27 @@
 #![tactic(auto)]
 
 ghost use Rattle.std.specs.Prelude.{◌≡◌, length};
+ghost use Rattle.model.specs.Answers.{as_done, as_value, as_standing};
 ghost use Rattle.model.specs.Calls.{plain_reply, start_values};
 ghost use Rattle.writers.specs.Writers.{WriteLists};
 ghost use Rattle.search.specs.Searches.{PlacesWithin};
 ghost use Rattle.query_answers.specs.Queries.{current_answer, as_of_answer, standing_answer};
 
 use fresh::fill_start;
-use model::{Answer, Standing, Value};
+use model::{Refusal, Standing};
 use search::{Found, position, rank};
 use timestamps::is_timestamp;
 use values::value_below;
 
 // The value of a setting in the view, or refusal 5.
-pub fn setting_value(view: &[i32], setting: usize) -> Value
+pub fn setting_value(view: &[i32], setting: usize) -> Result<i32, Refusal>
     requires { length view.now ≡ 1024 }
-    ensures { result ≡ current_answer view.now setting }
+    ensures { as_value result ≡ current_answer view.now setting }
 {
     if setting < 1024 {
-        return Value::Is(view[setting]);
+        return Ok(view[setting]);
     }
-    Value::Refused(5)
+    Err(Refusal::NoSetting)
 }
 
 // The value of a setting as of a timestamp among the first count changes of the order list, or refusal 4, 14 or 5.
@@ -36,24 +37,24 @@ pub fn value_at(
     targets: &[u16],
     written: &[i32],
     kept: &[i32],
-) -> Value
+) -> Result<i32, Refusal>
     requires { PlacesWithin count order.now (length timestamps.now) × (length writes.now ≡ length timestamps.now)
         × WriteLists writes.now targets.now written.now × (length kept.now ≡ 1024) }
-    ensures { result
+    ensures { as_value result
         ≡ as_of_answer order.now timestamps.now writes.now targets.now written.now
         kept.now cutoff count timestamp setting }
 {
     if timestamp == 0 {
-        return Value::Refused(4);
+        return Err(Refusal::NoTimestamp);
     }
     if timestamp < cutoff {
-        return Value::Refused(14);
+        return Err(Refusal::BelowCutoff);
     }
     if 1024 <= setting {
-        return Value::Refused(5);
+        return Err(Refusal::NoSetting);
     }
     let k = rank(timestamp, count, order, timestamps);
-    Value::Is(value_below(setting as u16, k, order, writes, targets, written, kept))
+    Ok(value_below(setting as u16, k, order, writes, targets, written, kept))
 }
 
 // The status and flag of the change of a timestamp among the first count of the order list, or refusal 4, 14 or 10.
@@ -65,35 +66,38 @@ pub fn standing_at(
     timestamps: &[u64],
     status: &[u16],
     withdrawn: &[u16],
-) -> Standing
+) -> Result<Standing, Refusal>
     requires { PlacesWithin count order.now (length timestamps.now) × (length status.now ≡ length timestamps.now)
         × (length withdrawn.now ≡ length timestamps.now) }
-    ensures { result
+    ensures { as_standing result
         ≡ standing_answer order.now timestamps.now status.now withdrawn.now cutoff count timestamp }
 {
     if !is_timestamp(timestamp) {
-        return Standing::Refused(4);
+        return Err(Refusal::NoTimestamp);
     }
     if timestamp < cutoff {
-        return Standing::Refused(14);
+        return Err(Refusal::BelowCutoff);
     }
     match position(timestamp, count, order, timestamps) {
         Found::At(k) => {
             let place = order[k] as usize;
-            Standing::At(status[place], withdrawn[place])
+            Ok(Standing {
+                status: status[place],
+                withdrawn: withdrawn[place],
+            })
         }
-        Found::Nothing => Standing::Refused(10),
+        Found::Nothing => Err(Refusal::NotHeld),
     }
 }
 
 // The start values, for a lent slice of 1,024 settings.
-pub fn start_values(settings: &mut [i32]) -> Answer
-    ensures { plain_reply result settings.new ≡ start_values settings.old }
+pub fn start_values(settings: &mut [i32]) -> Result<(), Refusal>
+    ensures { plain_reply (as_done result) settings.new ≡ start_values settings.old }
 {
     let fits = settings.len() == 1024;
     if fits {
         fill_start(settings);
-        return Answer::Done;
+        return Ok(());
     }
-    Answer::Refused(1)
+    Err(Refusal::WrongLengths)
 }

@@ -3,16 +3,16 @@
 
 ghost use Rattle.std.specs.Prelude.{◌≡◌, ◌+◌, ◌≤◌, length};
 ghost use Rattle.text.specs.Pieces.{Put};
+ghost use Rattle.model.specs.Answers.{as_done};
 ghost use Rattle.model.specs.Tables.{tables};
 ghost use Rattle.model.specs.Form.{Formed};
 ghost use Rattle.model.specs.Calls.{answer_number, package_reply};
 ghost use Rattle.replies.specs.Replies.{capacity, reply_lines};
 ghost use Rattle.replies.specs.Putting.{Answered, TurnsPut};
 
-use answer_numbers::answer_number;
 use checker::turn;
 use lines::{put_refusal, put_turn};
-use model::Answer;
+use model::Refusal;
 use reply_parts::{is_idle, put_entries, put_settings};
 
 // How many changes the tables hold.
@@ -51,14 +51,14 @@ fn put_turns(
         TurnsPut T at text.old text.new view.new result }
 {
     let mut end = at;
-    let mut idle = false;
-    while !idle {
-        let answer = turn(
-            CAPACITY, held, timestamps, order, status, withdrawn, lengths, programs, reads, writes,
-            sources, seen, targets, written, view, versions, cutoff, kept,
-        );
-        end = put_turn(answer, text, end);
-        idle = is_idle(answer);
+    while let Ok(made) = turn(
+        CAPACITY, held, timestamps, order, status, withdrawn, lengths, programs, reads, writes,
+        sources, seen, targets, written, view, versions, cutoff, kept,
+    ) {
+        if is_idle(made) {
+            break;
+        }
+        end = put_turn(made, text, end);
     }
     end
 }
@@ -82,12 +82,12 @@ pub fn put_reply(
     versions: &[u16],
     cutoff: &[u64],
     kept: &[i32],
-    answer: Answer,
+    answer: Result<(), Refusal>,
     bytes: &[u8],
     answers: &[u8],
     text: &mut [u8],
 ) -> usize
-    requires answered { answer_number answer ≡ 0 →
+    requires answered { answer_number (as_done answer) ≡ 0 →
         Answered bytes.now
         (tables held.now timestamps.now order.now status.old withdrawn.now lengths.now programs.now
         reads.old writes.old sources.old seen.old targets.old written.old view.old versions.now cutoff.now kept.now) }
@@ -96,12 +96,11 @@ pub fn put_reply(
         tables held.now timestamps.now order.now status.old withdrawn.now
         lengths.now programs.now reads.old writes.old sources.old
         seen.old targets.old written.old view.old versions.now cutoff.now kept.now in
-        Put 0 (reply_lines bytes.now (package_reply answer T answers.now)) text.old text.new result }
+        Put 0 (reply_lines bytes.now (package_reply (as_done answer) T answers.now)) text.old text.new result }
     ensures upper_bound { result ≤ 131072 }
 {
-    let refusal = answer_number(answer);
-    if refusal != 0 {
-        return put_refusal(refusal, text, 0);
+    if let Err(refusal) = answer {
+        return put_refusal(u8::from(refusal), text, 0);
     }
     let mut end = put_entries(bytes, answers, text);
     end = put_turns(

@@ -2,12 +2,13 @@
 #![tactic(auto)]
 
 ghost use Rattle.std.specs.Prelude.{◌≡◌};
+ghost use Rattle.model.specs.Answers.{as_done};
 ghost use Rattle.model.specs.Tables.{tables};
 ghost use Rattle.model.specs.Calls.{reply, set_up};
 
 use clearing::{clear_changes, clear_lists};
 use fresh::fill_start;
-use model::Answer;
+use model::Refusal;
 use tables::form::lengths_fit;
 
 pub fn set_up(
@@ -29,12 +30,12 @@ pub fn set_up(
     versions: &mut [u16],
     cutoff: &mut [u64],
     kept: &mut [i32],
-) -> Answer
+) -> Result<(), Refusal>
     ensures { let T =
         tables held.old timestamps.old order.old status.old withdrawn.old
         lengths.old programs.old reads.old writes.old sources.old
         seen.old targets.old written.old view.old versions.old cutoff.old kept.old in
-        reply result
+        reply (as_done result)
         (tables held.new timestamps.new order.new status.new withdrawn.new
         lengths.new programs.new reads.new writes.new sources.new
         seen.new targets.new written.new view.new versions.new cutoff.new kept.new)
@@ -44,7 +45,7 @@ pub fn set_up(
         n, held, timestamps, order, status, withdrawn, lengths, programs, reads, writes, sources,
         seen, targets, written, view, versions, cutoff, kept,
     ) {
-        return Answer::Refused(1);
+        return Err(Refusal::WrongLengths);
     }
     clear_changes(
         held, timestamps, order, status, withdrawn, lengths, programs, versions, cutoff,
@@ -52,5 +53,5 @@ pub fn set_up(
     clear_lists(reads, writes, sources, seen, targets, written);
     fill_start(view);
     fill_start(kept);
-    Answer::Done
+    Ok(())
 }

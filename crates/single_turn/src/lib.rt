@@ -3,11 +3,12 @@
 
 ghost use Rattle.std.specs.Prelude.{◌≡◌, length};
 ghost use Rattle.model.specs.Tables.{Tables, with_turn};
+ghost use Rattle.model.specs.Answers.{as_turn};
 ghost use Rattle.model.specs.Calls.{reply};
 ghost use Rattle.model.specs.Form.{Formed};
 ghost use Rattle.turns.specs.Turns.{turned, with_lent, WithSome};
 
-use model::Turned;
+use model::Turn;
 use search::{Found, waiting};
 use turns::turn_at;
 
@@ -29,7 +30,7 @@ pub fn turn_once(
     view: &mut [i32],
     versions: &[u16],
     kept: &[i32],
-) -> Turned
+) -> Turn
     requires { WithSome (λ T. Formed (length order.now)
         (with_lent T count timestamps.now order.now status.old withdrawn.now lengths.now programs.now reads.old
         writes.old sources.old seen.old targets.old written.old view.old versions.now kept.now)) }
@@ -39,7 +40,7 @@ pub fn turn_once(
         lengths.now programs.now reads.old writes.old sources.old
         seen.old targets.old written.old view.old versions.now kept.now in
         Formed (length order.now) L →
-        reply result
+        reply (as_turn result)
         (with_turn L status.new reads.new writes.new sources.new seen.new
         targets.new written.new view.new)
         ≡ turned L }
@@ -79,6 +80,6 @@ pub fn turn_once(
                 &mut settled,
             )
         }
-        Found::Nothing => Turned::Idle,
+        Found::Nothing => Turn::Idle,
     }
 }

@@ -3,10 +3,12 @@ ghost use Rattle.std.specs.Prelude.{◌≡◌, [], ◌≤◌};
 ghost use Rattle.model.specs.Tables.{tables};
 ghost use Rattle.model.specs.Form.{unused_fits, lengths_fit};
 ghost use Rattle.model.specs.Refusals.{fault_of};
+ghost use Rattle.model.specs.Answers.{number_in};
 
 use crate::held_count;
 use form_lists::lists_fit;
 use form_places::{heads_fit, none_below, order_fits, programs_fit};
+use model::Refusal;
 use zeros::{rest_zero_i32, rest_zero_u8, rest_zero_u16, rest_zero_u64};
 
 // Whether the tables have the lengths of capacity n, from 1 to 4,096: not refusal 1.
@@ -101,7 +103,7 @@ fn unused_fits(
         & rest_zero_u16(versions, count)
 }
 
-// Refusal 1 or 2, or 0.
+// Refusal 1 or 2, where one applies.
 pub fn fault(
     n: usize,
     held: &[u16],
@@ -121,22 +123,22 @@ pub fn fault(
     versions: &[u16],
     cutoff: &[u64],
     kept: &[i32],
-) -> u8
+) -> Result<(), Refusal>
     ensures { let T =
         tables held.now timestamps.now order.now status.now withdrawn.now
         lengths.now programs.now reads.now writes.now sources.now
         seen.now targets.now written.now view.now versions.now cutoff.now kept.now in
-        result ≡ fault_of n T }
+        number_in result ≡ fault_of n T }
 {
     if !lengths_fit(
         n, held, timestamps, order, status, withdrawn, lengths, programs, reads, writes, sources,
         seen, targets, written, view, versions, cutoff, kept,
     ) {
-        return 1;
+        return Err(Refusal::WrongLengths);
     }
     let count = held_count(held);
     if n < count {
-        return 2;
+        return Err(Refusal::NotInForm);
     }
     let last = cutoff[0];
     let fits = heads_fit(
@@ -151,5 +153,9 @@ pub fn fault(
         )
         & (last < 18446744073709551615)
         & none_below(count, last, timestamps);
-    if fits { 0 } else { 2 }
+    if fits {
+        Ok(())
+    } else {
+        Err(Refusal::NotInForm)
+    }
 }

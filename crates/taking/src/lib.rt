@@ -3,12 +3,13 @@
 
 ghost use Rattle.std.specs.Prelude.{◌≡◌, ◌+◌, ◌<◌, ◌≤◌, length};
 ghost use Rattle.machine.specs.Instruction.{code};
+ghost use Rattle.model.specs.Answers.{as_answer};
 ghost use Rattle.model.specs.Package.{taking};
 ghost use Rattle.tables.specs.Parts.{PartFormed, ItemAnswered};
 ghost use Rattle.taking.specs.Taking.{with_lent, entered, copied};
 
 use item_tests::{compare, refusal_of};
-use model::Answer;
+use model::{Outcome, Refusal};
 use search::{rank, stamped_at};
 use tables::held_count;
 
@@ -49,17 +50,14 @@ pub fn take_item(
     timestamp: u64,
     version: u16,
     program: &[u8],
-) -> Answer
+) -> Result<Outcome, Refusal>
     requires { PartFormed (λ T. with_lent T held.old timestamps.old order.old lengths.old programs.old versions.old cutoff.now) }
     ensures { ItemAnswered
         (λ T. with_lent T held.old timestamps.old order.old lengths.old programs.old versions.old cutoff.now)
         (λ T. with_lent T held.new timestamps.new order.new lengths.new programs.new versions.new cutoff.now)
-        (taking timestamp (code version program.now)) result }
+        (taking timestamp (code version program.now)) (as_answer result) }
 {
-    let refusal = refusal_of(cutoff[0], timestamp, version, program);
-    if refusal != 0 {
-        return Answer::Refused(refusal);
-    }
+    refusal_of(cutoff[0], timestamp, version, program)?;
     let count = held_count(held);
     let position = rank(timestamp, count, order, timestamps);
     if stamped_at(timestamp, position, count, order, timestamps) {
@@ -67,7 +65,7 @@ pub fn take_item(
         return compare(place, lengths, programs, versions, version, program);
     }
     if count == timestamps.len() {
-        return Answer::Refused(9);
+        return Err(Refusal::Full);
     }
     timestamps[count] = timestamp;
     enter_next(position, count, order);
@@ -75,5 +73,5 @@ pub fn take_item(
     versions[count] = version;
     copy_in(program, 256 * count, programs);
     held[0] = (count + 1) as u16;
-    Answer::Done
+    Ok(Outcome::Done)
 }

@@ -2,10 +2,11 @@
 #![tactic(auto)]
 
 ghost use Rattle.std.specs.Prelude.{◌≡◌, ◌<◌};
+ghost use Rattle.model.specs.Answers.{as_turn};
 ghost use Rattle.model.specs.Drain.{console};
 ghost use Rattle.totals.specs.Counted.{Countable, counted_at, counted_in};
 
-use model::Turned;
+use model::Turn;
 
 // One more turn of a kind, by the console of its timestamp.
 fn count(t: u64, kind: usize, totals: &mut [u16])
@@ -17,16 +18,15 @@ fn count(t: u64, kind: usize, totals: &mut [u16])
 }
 
 // One more turn, by its answer. An idle one is not counted.
-pub fn count_turn(answer: Turned, totals: &mut [u16])
+pub fn count_turn(answer: Turn, totals: &mut [u16])
     requires { Countable totals.old }
-    ensures { totals.new ≡ counted_in answer totals.old }
+    ensures { totals.new ≡ counted_in (as_turn answer) totals.old }
 {
     match answer {
-        Turned::Idle => {}
-        Turned::Ran(t) => count(t, 0, totals),
-        Turned::Stood(t) => count(t, 1, totals),
-        Turned::Cleared(t) => count(t, 2, totals),
-        Turned::Faulted(t, _) => count(t, 3, totals),
-        Turned::Refused(_) => {}
+        Turn::Idle => {}
+        Turn::Ran(t) => count(t, 0, totals),
+        Turn::Stood(t) => count(t, 1, totals),
+        Turn::Cleared(t) => count(t, 2, totals),
+        Turn::Faulted(t, _) => count(t, 3, totals),
     }
 }

@@ -3,12 +3,13 @@
 
 ghost use Rattle.std.specs.Prelude.{◌≡◌, true, ◌+◌};
 ghost use Rattle.model.specs.Tables.{Tables, with_turn};
+ghost use Rattle.model.specs.Answers.{as_turn};
 ghost use Rattle.model.specs.Calls.{reply};
 ghost use Rattle.turns.specs.Turns.{turned, with_lent, WithSome, Going, Turnable};
 
 use acts::decide;
 use carrying::carry_place;
-use model::Turned;
+use model::Turn;
 use replacement::replace;
 use turn_answers::{answer_of, stands};
 use uses::note_uses;
@@ -39,7 +40,7 @@ pub fn turn_at(
     readers: &mut [u16; 1024],
     writers: &mut [u16; 1024],
     settled: &mut [u16; 1024],
-) -> Turned
+) -> Turn
     requires { WithSome (λ T. Turnable noted k
         (with_lent T count timestamps.now order.now status.old withdrawn.now lengths.now programs.now reads.old
         writes.old sources.old seen.old targets.old written.old view.old versions.now kept.now)
@@ -54,7 +55,7 @@ pub fn turn_at(
         targets.new written.new view.new in
         Turnable noted k L known.old before.old after.old readers.old writers.old
         settled.old →
-        (reply result U ≡ turned L)
+        (reply (as_turn result) U ≡ turned L)
         × (noted ≡ true → Going (k + 1) U known.new before.new after.new readers.new
         writers.new settled.new) }
 {
@@ -68,7 +69,7 @@ pub fn turn_at(
     if stands(act) {
         carry_place(place, writes, targets, written, before, after);
         status[place] = 1;
-        return Turned::Stood(timestamp);
+        return Turn::Stood(timestamp);
     }
     note_uses(
         noted,

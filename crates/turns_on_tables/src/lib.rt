@@ -4,12 +4,13 @@
 ghost use Rattle.std.specs.Prelude.{◌≡◌, true, ◌+◌, length, replicate};
 ghost use Rattle.model.specs.Drain.{total_count};
 ghost use Rattle.model.specs.Tables.{tables, with_turn};
+ghost use Rattle.model.specs.Answers.{as_turn};
 ghost use Rattle.model.specs.Calls.{reply};
 ghost use Rattle.model.specs.Form.{Formed};
 ghost use Rattle.turns.specs.Turns.{turned, Going, Turnable};
 ghost use Rattle.passing.specs.Drained.{drained};
 
-use model::Turned;
+use model::Turn;
 use tables::held_count;
 
 // The turn of the change at position k, with the values as of it that are known. What is noted of the settings serves a drain; a single turn has nothing noted.
@@ -39,7 +40,7 @@ pub fn turn_at(
     readers: &mut [u16; 1024],
     writers: &mut [u16; 1024],
     settled: &mut [u16; 1024],
-) -> Turned
+) -> Turn
     requires { let T =
         tables held.now timestamps.now order.now status.old withdrawn.now lengths.now programs.now reads.old
         writes.old sources.old seen.old targets.old written.old view.old versions.now cutoff.now kept.now in
@@ -51,7 +52,7 @@ pub fn turn_at(
         let U =
         with_turn T status.new reads.new writes.new sources.new seen.new
         targets.new written.new view.new in
-        (reply result U ≡ turned T)
+        (reply (as_turn result) U ≡ turned T)
         × (noted ≡ true → Going (k + 1) U known.new before.new after.new readers.new
         writers.new settled.new) }
 {
@@ -102,7 +103,7 @@ pub fn turn_once(
     versions: &[u16],
     cutoff: &[u64],
     kept: &[i32],
-) -> Turned
+) -> Turn
     requires { Formed (length order.now)
         (tables held.now timestamps.now order.now status.old withdrawn.now lengths.now programs.now reads.old
         writes.old sources.old seen.old targets.old written.old view.old versions.now cutoff.now kept.now) }
@@ -110,7 +111,7 @@ pub fn turn_once(
         tables held.now timestamps.now order.now status.old withdrawn.now
         lengths.now programs.now reads.old writes.old sources.old
         seen.old targets.old written.old view.old versions.now cutoff.now kept.now in
-        reply result
+        reply (as_turn result)
         (with_turn T status.new reads.new writes.new sources.new seen.new
         targets.new written.new view.new)
         ≡ turned T }

@@ -2,11 +2,12 @@
 #![tactic(auto)]
 
 ghost use Rattle.std.specs.Prelude.{◌≡◌};
+ghost use Rattle.model.specs.Answers.{as_done};
 ghost use Rattle.model.specs.Package.{withdrawing};
 ghost use Rattle.tables.specs.Parts.{PartFormed, ItemAnswered};
 ghost use Rattle.withdrawing.specs.Withdrawing.{with_lent, unsettled_number};
 
-use model::Answer;
+use model::Refusal;
 use search::{Found, position};
 use tables::held_count;
 use timestamps::is_timestamp;
@@ -30,29 +31,29 @@ pub fn withdraw_item(
     withdrawn: &mut [u16],
     cutoff: &[u64],
     timestamp: u64,
-) -> Answer
+) -> Result<(), Refusal>
     requires { PartFormed (λ T. with_lent T held.now timestamps.now order.now status.old withdrawn.old cutoff.now) }
     ensures { ItemAnswered
         (λ T. with_lent T held.now timestamps.now order.now status.old withdrawn.old cutoff.now)
         (λ T. with_lent T held.now timestamps.now order.now status.new withdrawn.new cutoff.now)
-        (withdrawing timestamp) result }
+        (withdrawing timestamp) (as_done result) }
 {
     if !is_timestamp(timestamp) {
-        return Answer::Refused(4);
+        return Err(Refusal::NoTimestamp);
     }
     if timestamp < cutoff[0] {
-        return Answer::Refused(14);
+        return Err(Refusal::BelowCutoff);
     }
     let count = held_count(held);
     let found = position(timestamp, count, order, timestamps);
     let Found::At(k) = found else {
-        return Answer::Refused(10);
+        return Err(Refusal::NotHeld);
     };
     let place = order[k] as usize;
     if withdrawn[place] != 0 {
-        return Answer::Refused(11);
+        return Err(Refusal::WithdrawnAlready);
     }
     withdrawn[place] = 1;
     status[place] = unsettled(status[place]);
-    Answer::Done
+    Ok(())
 }
