@@ -10,7 +10,7 @@ ghost use Rattle.query_answers.specs.Queries.{current_answer, as_of_answer, stan
 
 use fresh::fill_start;
 use model::{Refusal, Standing};
-use search::{Found, position, rank};
+use search::{position, rank};
 use timestamps::is_timestamp;
 use values::value_below;
 
@@ -79,14 +79,14 @@ pub fn standing_at(
         return Err(Refusal::BelowCutoff);
     }
     match position(timestamp, count, order, timestamps) {
-        Found::At(k) => {
+        Some(k) => {
             let place = order[k] as usize;
             Ok(Standing {
                 status: status[place],
                 withdrawn: withdrawn[place],
             })
         }
-        Found::Nothing => Err(Refusal::NotHeld),
+        None => Err(Refusal::NotHeld),
     }
 }
 
