@@ -55,7 +55,7 @@ pub fn packed_number(packed: Result<u16, Refusal>) -> u32
 {
     match packed {
         Ok(size) => u32::from(size),
-        Err(refusal) => 65536 + u32::from(u8::from(refusal)),
+        Err(refused) => 65536 + u32::from(u8::from(refused)),
     }
 }
 
