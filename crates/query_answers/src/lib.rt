@@ -94,10 +94,9 @@ pub fn standing_at(
 pub fn start_values(settings: &mut [i32]) -> Result<(), Refusal>
     ensures { plain_reply (as_done result) settings.new ≡ start_values settings.old }
 {
-    let fits = settings.len() == 1024;
-    if fits {
-        fill_start(settings);
-        return Ok(());
+    if settings.len() != 1024 {
+        return Err(Refusal::WrongLengths);
     }
-    Err(Refusal::WrongLengths)
+    fill_start(settings);
+    Ok(())
 }
