@@ -1,7 +1,7 @@
 -- What a cutoff tests, as functions of the lent lists.
-use Rattle.std.specs.Prelude.{◌≡◌, Bool, false, cond, List, [], ◌∷◌, ℕ, eqb, ltb, length, get_or}
+use Rattle.std.specs.Prelude.{◌≡◌, Bool, false, List, [], ◌∷◌, ℕ, ltb, length, get_or}
 use Rattle.std.proofs.Math.Option.{Option, none, some}
-use Rattle.model.specs.Refusals.{Test, test, first_of, no_timestamp, below_cutoff}
+use Rattle.model.specs.Refusals.{Test, test, no_timestamp, below_cutoff}
 use Rattle.search.specs.Searches.{PlacesWithin, rank_of, waiting_of}
 
 -- does a change wait before a position, where the first that waits is found
