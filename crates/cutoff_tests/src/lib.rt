@@ -7,7 +7,7 @@ ghost use Rattle.model.specs.Refusals.{first_of};
 ghost use Rattle.cutoff_tests.specs.CutoffTests.{cutoff_tests, Testable};
 
 use model::Refusal;
-use search::{Found, rank, waiting};
+use search::{rank, waiting};
 use tables::held_count;
 use timestamps::is_timestamp;
 
@@ -32,8 +32,7 @@ pub fn refusal_of(
     }
     let count = held_count(held);
     let first = rank(timestamp, count, order, timestamps);
-    let found = waiting(count, order, status);
-    if let Found::At(k) = found {
+    if let Some(k) = waiting(count, order, status) {
         if k < first {
             return Err(Refusal::UnsettledBelow);
         }

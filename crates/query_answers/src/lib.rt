@@ -10,7 +10,7 @@ ghost use Rattle.query_answers.specs.Queries.{current_answer, as_of_answer, stan
 
 use fresh::fill_start;
 use model::{Refusal, Standing};
-use search::{Found, position, rank};
+use search::{position, rank};
 use timestamps::is_timestamp;
 use values::value_below;
 
@@ -78,16 +78,12 @@ pub fn standing_at(
     if timestamp < cutoff {
         return Err(Refusal::BelowCutoff);
     }
-    match position(timestamp, count, order, timestamps) {
-        Found::At(k) => {
-            let place = order[k] as usize;
-            Ok(Standing {
-                status: status[place],
-                withdrawn: withdrawn[place],
-            })
-        }
-        Found::Nothing => Err(Refusal::NotHeld),
-    }
+    let k = position(timestamp, count, order, timestamps).ok_or(Refusal::NotHeld)?;
+    let place = order[k] as usize;
+    Ok(Standing {
+        status: status[place],
+        withdrawn: withdrawn[place],
+    })
 }
 
 // The start values, for a lent slice of 1,024 settings.

@@ -26,7 +26,7 @@ use Rattle.tables.proofs.Parts.{item-replied}
 use Rattle.item_tests.specs.ItemTests.{argument_tests, compared_answer}
 use Rattle.taking.specs.Taking.{entered, copied}
 use Rattle.taking.proofs.Entered.{entered_in, added}
-use Rattle.taking.proofs.Answers.{Acceptable, refused, compared, none_left, place-left}
+use Rattle.taking.proofs.Answers.{Acceptable, acceptable, refused, compared, none_left, place-left}
 
 -- refused by its arguments
 pub refused-replied : {n : ℕ} {T : Tables} → Formed n T → (t : ℕ) (p : Code) {r : ℕ} → r ≡ first_of (argument_tests (cutoff_in T) t p) → (r ≡ 0 → ⊥) → reply (Answer.Refused r) T ≡ item_call n T (taking t p)
@@ -37,6 +37,10 @@ refused-replied {n} {T} g t p e f = item-replied (taking t p) g (refused n (deco
 pub record AtRank (T : Tables) (t count position : ℕ) : Type 0 where
   pub counted : count ≡ held_count T
   pub ranked : position ≡ rank_of T.order T.timestamps t count
+
+-- as the code finds them
+pub at-rank : {T : Tables} {t count position : ℕ} → count ≡ held_count T → position ≡ rank_of T.order T.timestamps t count → AtRank T t count position
+at-rank e f = record { counted = e; ranked = f }
 
 -- the change at a position is held: its place, and its program
 pub record HeldAt (T : Tables) (position : ℕ) : Type 0 where
@@ -86,7 +90,7 @@ module _ {n : ℕ} {T : Tables} (g : Formed n T) {t count position : ℕ} (r : A
     unfolding decode
     a = accepted
 
-    pub room-left : (count ≡ length T.timestamps → ⊥) → Room n T p count position
+    room-left : (count ≡ length T.timestamps → ⊥) → Room n T p count position
     room-left f =
         record {
           next = omega (arith, f, r.counted, (facts g).form.small, (facts g).sizes.timestamps);
@@ -121,3 +125,7 @@ module _ {n : ℕ} {T : Tables} (g : Formed n T) {t count position : ℕ} (r : A
           ∙ ap (λ (m : ℕ). entered_in T m position t p) (r.counted ∙ sym (held-changes g))
           ∙ subst (λ (U : Tables). entered_in U (length (decode T).changes) position t p ≡ encode n (add t p (decode T))) (facts g).laid
           (added n (decode T) (facts g).sound t p room left.short (free e) position within split))
+
+-- a place is left, by what the tests and the search found
+pub room-found : {n : ℕ} {T : Tables} → Formed n T → (t : ℕ) (p : Code) {count position : ℕ} → count ≡ held_count T → position ≡ rank_of T.order T.timestamps t count → 0 ≡ first_of (argument_tests (cutoff_in T) t p) → (count ≡ length T.timestamps → ⊥) → Room n T p count position
+room-found {T = T} g t p e f passed left = room-left g (at-rank e f) (acceptable (cutoff_in T) t p (sym passed)) left

@@ -8,7 +8,7 @@ ghost use Rattle.writers.specs.Writers.{OfSettings, WriteLists};
 ghost use Rattle.search.specs.Searches.{PlacesWithin};
 ghost use Rattle.values.specs.Values.{values_below, IsKnown, AllKnown, Lookable, Looked};
 
-use writers::{Written, previous_write};
+use writers::previous_write;
 
 // The value of a setting as of a position of the order list: that of the previous write, or the kept value.
 pub fn value_below(
@@ -25,10 +25,7 @@ pub fn value_below(
         × (s < length kept.now) }
     ensures { result ≡ values_below order.now writes.now targets.now written.now kept.now k s }
 {
-    match previous_write(s, k, order, writes, targets, written) {
-        Written::Value(v) => v,
-        Written::Nothing => kept[s as usize],
-    }
+    previous_write(s, k, order, writes, targets, written).unwrap_or(kept[s as usize])
 }
 
 // The value of a setting as of a position: the known one, or one that is searched for and then known.

@@ -8,7 +8,7 @@ ghost use Rattle.tables.specs.Parts.{PartFormed, ItemAnswered};
 ghost use Rattle.withdrawing.specs.Withdrawing.{with_lent, unsettled_number};
 
 use model::Refusal;
-use search::{Found, position};
+use search::position;
 use tables::held_count;
 use timestamps::is_timestamp;
 
@@ -45,10 +45,7 @@ pub fn withdraw_item(
         return Err(Refusal::BelowCutoff);
     }
     let count = held_count(held);
-    let found = position(timestamp, count, order, timestamps);
-    let Found::At(k) = found else {
-        return Err(Refusal::NotHeld);
-    };
+    let k = position(timestamp, count, order, timestamps).ok_or(Refusal::NotHeld)?;
     let place = order[k] as usize;
     if withdrawn[place] != 0 {
         return Err(Refusal::WithdrawnAlready);
