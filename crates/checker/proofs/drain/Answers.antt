@@ -1,6 +1,7 @@
 -- Refused for the number of totals or the tables, or what all turns make of tables in form.
 use Rattle.std.proofs.Common.{refl, ap, ◌∙◌, ℕ, replicate}
 use Rattle.std.proofs.lemmas.Result.{err_from_is_err_and}
+use Rattle.model.specs.Tables.{tables}
 use Rattle.model.proofs.Answered.{refused-not-0}
 use Rattle.model.proofs.Form.{facts}
 use Rattle.tables.proofs.Faults.{faultless}
@@ -20,12 +21,13 @@ held_count-count-requires c = (facts (faultless _ _ c.in_ok-fault.ensures refl))
 
 pub turn_all-requires : goal.turn_all-requires
 turn_all-requires c =
-    (
-      record { others = _; so = formed _ _ (faultless _ _ c.in_ok-fault.ensures refl) c.held_count-count.ensures },
+    let T = tables c.args.held.now c.args.timestamps.now c.args.order.now c.args.status.now c.args.withdrawn.now c.args.lengths.now c.args.programs.now c.args.reads.now c.args.writes.now c.args.sources.now c.args.seen.now c.args.targets.now c.args.written.now c.args.view.now c.args.versions.now c.args.cutoff.now c.args.kept.now in (
+      record { others = T; so = formed _ T (faultless _ _ c.in_ok-fault.ensures refl) c.held_count-count.ensures },
       c.clear_u16.ensures ∙ ap (λ (n : ℕ). replicate n 0) c.if-totals-ne1024.false,
     )
 
 pub returns : goal.returns
 returns c =
-    let g = faultless _ _ c.in_ok-fault.ensures refl in
-    drain-done _ _ g c.held_count-count.ensures _ c.if-totals-ne1024.false (c.turn_all.ensures _ (formed _ _ g c.held_count-count.ensures)) refl
+    let T = tables c.args.held.now c.args.timestamps.now c.args.order.now c.args.status.now c.args.withdrawn.now c.args.lengths.now c.args.programs.now c.args.reads.now c.args.writes.now c.args.sources.now c.args.seen.now c.args.targets.now c.args.written.now c.args.view.now c.args.versions.now c.args.cutoff.now c.args.kept.now in
+    let g = faultless _ T c.in_ok-fault.ensures refl in
+    drain-done _ T g c.held_count-count.ensures _ c.if-totals-ne1024.false (c.turn_all.ensures T (formed _ T g c.held_count-count.ensures)) refl
