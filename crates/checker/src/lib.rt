@@ -43,6 +43,7 @@ pub fn turn(
         targets.new written.new view.new)
         ≡ turn n T }
 {
+    // Nothing is done before the tables are tested.
     fault(
         n, held, timestamps, order, status, withdrawn, lengths, programs, reads, writes, sources,
         seen, targets, written, view, versions, cutoff, kept,

@@ -10,7 +10,6 @@ use Rattle.model.specs.Tables.{Tables, encode, decode}
 use Rattle.model.specs.Package.{Item, entry_count, entry_at, count_of, item_at}
 use Rattle.model.specs.Calls.{Reply, answer_number, reply, item_answer, item_step, item_call}
 use Rattle.model.specs.Sound.{Sound}
-use Rattle.model.proofs.Tests.{Lengths}
 use Rattle.model.proofs.Tables.{decode-encode}
 use Rattle.model.proofs.Items.{of-answer}
 use Rattle.model.proofs.Form.{facts, encode-formed}
@@ -47,14 +46,11 @@ module _ {bytes lent : List ℕ} {before : Tables → Tables} (r : EntriesReady 
     now = k.carried r.formed.others r.formed.formed
 
     -- the tables are still in form
-    pub still_formed : Formed r.formed.capacity (after r.formed.others)
+    still_formed : Formed r.formed.capacity (after r.formed.others)
     still_formed = carried-faultless now (facts r.formed.formed).sound
 
-    pub still-lengths : Lengths r.formed.capacity (after r.formed.others)
-    still-lengths = (facts still_formed).sizes
-
     -- the answer bytes are as many as were lent
-    pub still-sized : length answers ≡ length lent
+    still-sized : length answers ≡ length lent
     still-sized = carried-length now (omega (arith, r.sized, (laid_out bytes r.laid_out).few))
 
     -- there is one for entry j

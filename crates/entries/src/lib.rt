@@ -34,9 +34,7 @@ pub fn take_entries(
 {
     let count = entry_count(bytes);
     let mut body = entry_at(count);
-    let mut j = 0;
-    let mut left = 0 < count;
-    while left {
+    for j in 0..count {
         let answer = take_entry(
             held, timestamps, order, status, withdrawn, lengths, programs, versions, cutoff, bytes,
             j, body,
@@ -44,7 +42,5 @@ pub fn take_entries(
         let number = answer_number(answer);
         answers[j] = number;
         body += 8 * count_at(bytes, j);
-        j += 1;
-        left = j < count;
     }
 }

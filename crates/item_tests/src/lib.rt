@@ -5,7 +5,7 @@ ghost use Rattle.std.specs.Prelude.{◌≡◌, ◌*◌, ◌<◌, ◌≤◌, leng
 ghost use Rattle.machine.specs.Instruction.{code};
 ghost use Rattle.model.specs.Tables.{code_in};
 ghost use Rattle.model.specs.Answers.{number_in, as_answer};
-ghost use Rattle.model.specs.Refusals.{first_of, same_bytes};
+ghost use Rattle.model.specs.Refusals.{first_of};
 ghost use Rattle.item_tests.specs.ItemTests.{argument_tests, compared_answer};
 
 use bytecode::form::{length_fits, well_formed};
@@ -34,23 +34,6 @@ pub fn refusal_of(cutoff: u64, timestamp: u64, version: u16, program: &[u8]) -> 
     Ok(())
 }
 
-// Whether two lists are the same bytes.
-fn same_bytes(a: &[u8], b: &[u8]) -> bool
-    ensures { result ≡ same_bytes a.now b.now }
-{
-    if a.len() != b.len() {
-        return false;
-    }
-    let mut i = 0;
-    while i < a.len() {
-        if a[i] != b[i] {
-            return false;
-        }
-        i += 1;
-    }
-    true
-}
-
 // The answer to a program of a version whose timestamp is held at a place: already held there, or refusal 8.
 pub fn compare(
     place: usize,
@@ -67,7 +50,8 @@ pub fn compare(
 {
     let start = 256 * place;
     let end = start + 8 * (lengths[place] as usize);
-    if (versions[place] == version) & same_bytes(&programs[start..end], program) {
+    let held = &programs[start..end];
+    if (versions[place] == version) & (held == program) {
         return Ok(Outcome::Held);
     }
     Err(Refusal::HeldOtherwise)

@@ -13,14 +13,14 @@ pub fn put_little_endian(number: u64, size: usize, bytes: &mut [u8], at: usize) 
     requires { at + size ≤ length bytes.old }
     ensures { Put at (number_bytes size number) bytes.old bytes.new result }
 {
+    let end = at + size;
+    let part = &mut bytes[at..end];
     let mut rest = number;
-    let mut k = 0;
-    while k < size {
-        bytes[at + k] = (rest % 256) as u8;
-        rest = rest / 256;
-        k += 1;
+    for byte in part.iter_mut() {
+        *byte = (rest % 256) as u8;
+        rest /= 256;
     }
-    at + size
+    end
 }
 
 // An entry put at `at`: timestamp, kind, instruction count, version, a zero byte.

@@ -9,7 +9,7 @@ use Rattle.package_parts.specs.Parts.{total_of}
 
 module _ (order column : List ℕ) where
   -- one place more
-  total-next : (k : ℕ) → total_of order column (k + 1) ≡ total_of order column k + get_or column (get_or order k 0) 0
+  pub total-next : (k : ℕ) → total_of order column (k + 1) ≡ total_of order column k + get_or column (get_or order k 0) 0
   unfolding total_of
   total-next k = rw add-one
 
@@ -29,15 +29,3 @@ module _ (order column : List ℕ) where
   total-within k count h =
       let e : k + 1 + (count - (k + 1)) ≡ count = omega arith in
       omega (arith, total-next k, rw e at (rises (k + 1) (count - (k + 1))))
-
--- the first k of count places are summed
-pub record Summed (order column : List ℕ) (count k sum : ℕ) : Type 0 where
-  pub within : k ≤ count
-  pub sums : sum ≡ total_of order column k
-
-pub summed-none : (order column : List ℕ) (count : ℕ) → Summed order column count 0 0
-unfolding total_of
-summed-none order column count = record { within = omega arith; sums = omega arith }
-
-pub summed-next : {order column : List ℕ} {count k sum : ℕ} → Summed order column count k sum → k < count → Summed order column count (k + 1) (sum + get_or column (get_or order k 0) 0)
-summed-next {order} {column} {count} {k} s h = record { within = omega (arith, h); sums = omega (arith, s.sums, total-next order column k) }

@@ -15,10 +15,8 @@ pub fn total(count: usize, order: &[u16], column: &[u16]) -> usize
     ensures { result ≡ total_of order.now column.now count }
 {
     let mut sum = 0;
-    let mut k = 0;
-    while k < count {
-        sum += column[order[k] as usize] as usize;
-        k += 1;
+    for place in &order[..count] {
+        sum += usize::from(column[usize::from(*place)]);
     }
     sum
 }
@@ -42,9 +40,8 @@ pub fn put_changes(
         bytes.old bytes.new result }
 {
     let mut end = at;
-    let mut k = 0;
-    while k < count {
-        let place = order[k] as usize;
+    for place in &order[..count] {
+        let place = usize::from(*place);
         end = put_entry(
             timestamps[place],
             0,
@@ -53,7 +50,6 @@ pub fn put_changes(
             bytes,
             end,
         );
-        k += 1;
     }
     end
 }
@@ -73,11 +69,9 @@ pub fn put_withdrawals(
         bytes.old bytes.new result }
 {
     let mut end = at;
-    let mut k = 0;
-    while k < count {
-        let place = order[k] as usize;
+    for place in &order[..count] {
+        let place = usize::from(*place);
         end = put_withdrawal(withdrawn[place], timestamps[place], bytes, end);
-        k += 1;
     }
     end
 }
@@ -97,13 +91,11 @@ pub fn put_bodies(
         bytes.old bytes.new result }
 {
     let mut end = at;
-    let mut k = 0;
-    while k < count {
-        let place = order[k] as usize;
+    for place in &order[..count] {
+        let place = usize::from(*place);
         let first = 256 * place;
-        let last = first + 8 * lengths[place] as usize;
+        let last = first + 8 * usize::from(lengths[place]);
         end = put(&programs[first..last], bytes, end);
-        k += 1;
     }
     end
 }

@@ -3,28 +3,14 @@
 
 ghost use Rattle.std.specs.Prelude.{◌≡◌, ◌&&◌, ◌+◌, ◌*◌, ◌<◌, ◌≤◌, eqb, length};
 ghost use Rattle.general.specs.Lists.{all_below};
-ghost use Rattle.model.specs.Package.{number_at, entry_count, entry_at, stamp_of, kind_of, count_of, version_of, entry_fits, count_before, layout_fits};
-
-// The number in size bytes at i, low byte first.
-fn number_at(bytes: &[u8], i: usize, size: usize) -> u64
-    requires { (size ≤ 8) × (i + size ≤ length bytes.now) }
-    ensures { result ≡ number_at bytes.now i size }
-{
-    let mut number: u64 = 0;
-    let mut k = size;
-    while 0 < k {
-        k -= 1;
-        number = bytes[i + k] as u64 + 256 * number;
-    }
-    number
-}
+ghost use Rattle.model.specs.Package.{entry_count, entry_at, stamp_of, kind_of, count_of, version_of, entry_fits, count_before, layout_fits};
 
 // The number of entries.
 pub fn entry_count(bytes: &[u8]) -> usize
     requires { 2 ≤ length bytes.now }
     ensures { result ≡ entry_count bytes.now }
 {
-    number_at(bytes, 0, 2) as usize
+    usize::from(u16::from_le_bytes([bytes[0], bytes[1]]))
 }
 
 // Where entry j stands. Entry k of k entries would stand where the bodies begin.
@@ -40,7 +26,10 @@ pub fn timestamp_at(bytes: &[u8], j: usize) -> u64
     requires { entry_at j + 12 ≤ length bytes.now }
     ensures { result ≡ stamp_of bytes.now j }
 {
-    number_at(bytes, entry_at(j), 8)
+    let at = entry_at(j);
+    let mut stamp = [0; 8];
+    stamp.copy_from_slice(&bytes[at..at + 8]);
+    u64::from_le_bytes(stamp)
 }
 
 // The kind of entry j: 0 change, 1 withdrawal.
@@ -56,7 +45,7 @@ pub fn count_at(bytes: &[u8], j: usize) -> usize
     requires { entry_at j + 12 ≤ length bytes.now }
     ensures { result ≡ count_of bytes.now j }
 {
-    bytes[entry_at(j) + 9] as usize
+    usize::from(bytes[entry_at(j) + 9])
 }
 
 // The version of entry j.
@@ -64,7 +53,7 @@ pub fn version_at(bytes: &[u8], j: usize) -> u16
     requires { entry_at j + 12 ≤ length bytes.now }
     ensures { result ≡ version_of bytes.now j }
 {
-    bytes[entry_at(j) + 10] as u16
+    u16::from(bytes[entry_at(j) + 10])
 }
 
 // Whether entry j has a kind, an instruction count and a version that fit it, and a zero byte.
@@ -91,11 +80,9 @@ fn bodies_fit(bytes: &[u8], count: usize) -> bool
 {
     let mut fits = true;
     let mut body = entry_at(count);
-    let mut j = 0;
-    while j < count {
-        fits = fits & entry_fits(bytes, j);
+    for j in 0..count {
+        fits &= entry_fits(bytes, j);
         body += 8 * count_at(bytes, j);
-        j += 1;
     }
     fits & (bytes.len() == body)
 }

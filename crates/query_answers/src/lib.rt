@@ -78,26 +78,21 @@ pub fn standing_at(
     if timestamp < cutoff {
         return Err(Refusal::BelowCutoff);
     }
-    match position(timestamp, count, order, timestamps) {
-        Some(k) => {
-            let place = order[k] as usize;
-            Ok(Standing {
-                status: status[place],
-                withdrawn: withdrawn[place],
-            })
-        }
-        None => Err(Refusal::NotHeld),
-    }
+    let k = position(timestamp, count, order, timestamps).ok_or(Refusal::NotHeld)?;
+    let place = order[k] as usize;
+    Ok(Standing {
+        status: status[place],
+        withdrawn: withdrawn[place],
+    })
 }
 
 // The start values, for a lent slice of 1,024 settings.
 pub fn start_values(settings: &mut [i32]) -> Result<(), Refusal>
     ensures { plain_reply (as_done result) settings.new ≡ start_values settings.old }
 {
-    let fits = settings.len() == 1024;
-    if fits {
-        fill_start(settings);
-        return Ok(());
+    if settings.len() != 1024 {
+        return Err(Refusal::WrongLengths);
     }
-    Err(Refusal::WrongLengths)
+    fill_start(settings);
+    Ok(())
 }

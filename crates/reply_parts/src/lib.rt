@@ -20,10 +20,8 @@ pub fn put_entries(bytes: &[u8], answers: &[u8], text: &mut [u8]) -> usize
 {
     let count = entry_count(bytes);
     let mut end = 0;
-    let mut j = 0;
-    while j < count {
+    for j in 0..count {
         end = put_entry(j, kind_at(bytes, j), answers[j], text, end);
-        j += 1;
     }
     end
 }
@@ -42,10 +40,8 @@ pub fn put_settings(view: &[i32], text: &mut [u8], at: usize) -> usize
     ensures upper_bound { result ≤ at + 65536 }
 {
     let mut end = at;
-    let mut s = 0;
-    while s < view.len() {
-        end = put_setting(s, start_value(s), view[s], text, end);
-        s += 1;
+    for (setting, value) in view.iter().enumerate() {
+        end = put_setting(setting, start_value(setting), *value, text, end);
     }
     end
 }

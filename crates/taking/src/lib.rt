@@ -18,11 +18,7 @@ fn enter_next(position: usize, count: usize, order: &mut [u16])
     requires { (position ≤ count) × (count < length order.old) × (length order.old ≤ 4096) }
     ensures { order.new ≡ entered count position order.old }
 {
-    let mut k = count;
-    while position < k {
-        order[k] = order[k - 1];
-        k -= 1;
-    }
+    order.copy_within(position..count, position + 1);
     order[position] = count as u16;
 }
 
@@ -31,11 +27,7 @@ fn copy_in(source: &[u8], at: usize, destination: &mut [u8])
     requires { at + length source.now ≤ length destination.old }
     ensures { destination.new ≡ copied source.now at destination.old }
 {
-    let mut i = 0;
-    while i < source.len() {
-        destination[at + i] = source[i];
-        i += 1;
-    }
+    destination[at..at + source.len()].copy_from_slice(source);
 }
 
 // A program taken in, on tables in form: stored at the next place, New, not withdrawn, its lists empty, as unused slots are already.

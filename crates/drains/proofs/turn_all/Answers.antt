@@ -13,5 +13,5 @@ turn_from-requires c = (record { others = c.requires.0.others; so = (c.requires.
 pub returns-in-Some : goal.returns-in-Some
 returns-in-Some c T g = c.turn_from.ensures T g
 
-pub returns-in-None : goal.returns-in-None
-returns-in-None c T g = pass-none g c.requires.1 (found_nothing _ c.waiting.ensures c.in-None.is)
+pub returns-in_default : goal.returns-in_default
+returns-in_default c T g = pass-none g c.requires.1 (found_nothing _ c.waiting.ensures c.in_default.is)

@@ -8,17 +8,17 @@ use Rattle.reply_parts.specs.Parts.{setting_of, setting_lines}
 use Rattle.reply_parts.proofs.Values.{setting-read}
 use Rattle.reply_parts.proofs.put_settings.Goals as goal
 
-pub loop-s-init : goal.loop-s-init
-loop-s-init c = below_none _ _ _ _ _
+pub loop-setting-init : goal.loop-setting-init
+loop-setting-init c = below_none _ _ _ _ _
 
-pub loop-s-preserved : goal.loop-s-preserved
-loop-s-preserved c =
+pub loop-setting-preserved : goal.loop-setting-preserved
+loop-setting-preserved c =
     let first : SFits w32 c.start_value.result = search rules in
-    let value : SFits w32 (value_in c.args.view.now c.loop-s.s) = search rules in
-    let e = setting-read c.loop-s.s c.args.view.now first c.start_value.ensures value in
-    below_next c.loop-s.invariant c.loop-s-test.true (omega arith) (put_as c.put_setting-end.ensures.put e) c.put_setting-end.ensures.upper_bound c.put_setting-end.auto.text
+    let value : SFits w32 (value_in c.args.view.now c.loop-setting.setting) = search rules in
+    let e = setting-read c.loop-setting.setting c.args.view.now first c.start_value.ensures value in
+    below_next c.loop-setting.invariant c.loop-setting-test.true (omega arith) (put_as c.put_setting-end.ensures.put e) c.put_setting-end.ensures.upper_bound c.put_setting-end.auto.text
 
 pub returns-clause-put : goal.returns-clause-put
 unfolding setting_lines
 returns-clause-put c =
-    put_as (below_all c.loop-s.invariant c.loop-s-test.false) (ap (λ (k : ℕ). pieces_below k (setting_of c.args.view.now)) c.requires.0)
+    put_as (below_all c.loop-setting.invariant c.loop-setting-test.false) (ap (λ (k : ℕ). pieces_below k (setting_of c.args.view.now)) c.requires.0)

@@ -1,0 +1,25 @@
+-- Refused for the tables, or the answer on tables in form.
+use Rattle.std.proofs.Common.{refl, ◌∙◌, arith}
+use Rattle.std.proofs.lemmas.Result.{err_from_is_err_and}
+use Rattle.model.proofs.Answered.{refused-not-0}
+use Rattle.model.proofs.Form.{facts}
+use Rattle.tables.proofs.Faults.{faultless}
+use Rattle.queries.proofs.Outcomes.{standing-fault, standing-asks, standing-formed}
+use Rattle.queries.proofs.standing.Goals as goal
+
+pub returns-in_err-fault : goal.returns-in_err-fault
+returns-in_err-fault c =
+    let p = err_from_is_err_and c.from_residual.result c.from_residual.ensures.1 in
+    rw (p.1, p.2) (standing-fault _ _ _ c.in_err-fault.ensures (refused-not-0 _))
+
+pub held_count-count-requires : goal.held_count-count-requires
+held_count-count-requires c = (facts (faultless _ _ c.in_ok-fault.ensures refl)).sizes.held
+
+pub bounds-cutoff-0 : goal.bounds-cutoff-0
+bounds-cutoff-0 c = omega (arith, (facts (faultless _ _ c.in_ok-fault.ensures refl)).sizes.cutoff)
+
+pub standing_at-requires : goal.standing_at-requires
+standing_at-requires c = standing-asks (faultless _ _ c.in_ok-fault.ensures refl) c.held_count-count.ensures
+
+pub returns : goal.returns
+returns c = c.standing_at.ensures ∙ standing-formed _ _ _ (faultless _ _ c.in_ok-fault.ensures refl) c.held_count-count.ensures
