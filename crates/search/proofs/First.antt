@@ -2,7 +2,7 @@
 use mathlib.Core.Path.{◌≡◌, refl, subst}
 use mathlib.Core.Bool.{Bool, true, false, cond}
 use mathlib.Core.Option.{Option, none, some}
-use Prim.Native.Nat.{ℕ, zero, suc, ◌+◌, ◌-◌, ◌<◌, ◌≤◌}
+use Prim.Native.Nat.{ℕ, zero, suc, ◌+◌, ◌<◌, ◌≤◌}
 use mathlib.Core.Path.{sym, ap}
 use mathlib.Core.List.{List}
 use lib.ListN.{length, get_or, take}
@@ -12,34 +12,9 @@ use Rattle.std.specs.Prelude.{Some, None, MatchOption}
 use Rattle.std.specs.List.{All, AllWithin, HoldsAt}
 use Rattle.std.proofs.lemmas.Grind.{common_steps}
 use native.Mathlib.Decide.{dec_lt}
-use native.Mathlib.Numerals.{add-one}
 use native.Mathlib.Omega.{arith}
 use Rattle.general.proofs.Cases.{by-test}
 use Rattle.search.specs.Searches.{PlacesWithin, first_from, found_of}
-
--- ---- counting up
-
--- the first position from k up to a count
-abbrev pub first_up_to : (ℕ → Bool) → ℕ → ℕ → Option ℕ
-first_up_to test count k = first_from test k (count - k)
-
-module _ (test : ℕ → Bool) (count k : ℕ) where
-  -- none is left
-  pub first_ends : count ≤ k → first_up_to test count k ≡ none
-  unfolding first_from
-  first_ends h = let e : count - k ≡ 0 = omega arith in rw e
-
-  module _ (h : k < count) where
-    one_more : count - k ≡ suc (count - (k + 1))
-    one_more = omega arith
-
-    pub first-here : test k ≡ true → first_up_to test count k ≡ some k
-    unfolding first_from
-    first-here t = rw (one_more, t)
-
-    pub first_next : test k ≡ false → first_up_to test count (k + 1) ≡ first_up_to test count k
-    unfolding first_from
-    first_next t = rw (one_more, t, add-one)
 
 -- ---- what the answer says
 

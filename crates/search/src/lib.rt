@@ -44,5 +44,7 @@ pub fn waiting(count: usize, order: &[u16], status: &[u16]) -> Option<usize>
     requires { PlacesWithin count order.now (length status.now) }
     ensures { result ≡ found_of (waiting_of order.now status.now count) }
 {
-    order[..count].iter().position(|place| status[*place as usize] != 1)
+    order[..count]
+        .iter()
+        .position(|place| status[*place as usize] != 1)
 }

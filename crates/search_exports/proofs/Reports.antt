@@ -1,14 +1,14 @@
 -- What the searches report, by outcome.
-use mathlib.Core.Path.{◌≡◌, refl, sym, ◌∙◌}
+use mathlib.Core.Path.{◌≡◌}
 use mathlib.Core.List.{List}
-use Prim.Native.Nat.{ℕ, zero, suc}
-use borrow.Author.Tests.{eq-eqb, ne_eqb}
+use Prim.Native.Nat.{ℕ}
+use borrow.Author.Tests.{eq-eqb}
 use lib.IntN.{ℤ}
 use lib.ListN.{length, get_or}
 use Rattle.general.specs.Lists.{tabulate}
 use Rattle.search.specs.Searches.{found_of}
 use Rattle.writers.specs.Writers.{previous_write}
-use Rattle.search_exports.specs.Answers.{table_refusal, number_of, search_report, report_by, searches_report}
+use Rattle.search_exports.specs.Answers.{table_refusal, number_of, search_report, searches_report}
 
 module _ (settings : List ℕ) (position : ℕ) (order writes targets : List ℕ) (written answers : List ℤ) where
   -- the number of the i-th setting's previous write

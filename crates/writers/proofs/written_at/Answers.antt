@@ -1,5 +1,5 @@
 -- `writers::written_at`: where no slot looked through holds the setting, no entry is of it; else an entry of the setting, or the next one down.
-use Rattle.std.proofs.Common.{◌≡◌, ◌*◌, ◌∙◌, refl, sym, ap, drop, arith, rules}
+use Rattle.std.proofs.Common.{◌≡◌, ◌*◌, ◌∙◌, sym, ap, drop, arith, rules}
 use Rattle.machine.specs.Settings.{entries, lookup}
 use Rattle.search.specs.Searches.{found_of}
 use Rattle.writers.proofs.Named.{not_named}
