@@ -9,13 +9,11 @@ pub fn rank(t: u64, count: usize, order: &[u16], timestamps: &[u64]) -> usize
     requires { PlacesWithin count order.now (length timestamps.now) }
     ensures { result ≡ rank_of order.now timestamps.now t count }
 {
-    let mut k = count;
-    while 0 < k {
-        let place = order[k - 1] as usize;
+    for k in (0..count).rev() {
+        let place = order[k] as usize;
         if timestamps[place] < t {
-            return k;
+            return k + 1;
         }
-        k -= 1;
     }
     0
 }
@@ -46,16 +44,7 @@ pub fn waiting(count: usize, order: &[u16], status: &[u16]) -> Option<usize>
     requires { PlacesWithin count order.now (length status.now) }
     ensures { result ≡ found_of (waiting_of order.now status.now count) }
 {
-    let mut k = 0;
-    let found = loop {
-        if count <= k {
-            break None;
-        }
-        let place = order[k] as usize;
-        if status[place] != 1 {
-            break Some(k);
-        }
-        k += 1;
-    };
-    found
+    order[..count]
+        .iter()
+        .position(|place| status[*place as usize] != 1)
 }

@@ -1,17 +1,19 @@
 -- What the refusal of a search tells of the tables.
-use mathlib.Core.Path.{◌≡◌, refl, sym, ap, subst, ◌∙◌}
+use mathlib.Core.Path.{◌≡◌, refl, sym, subst, ◌∙◌}
 use mathlib.Core.Bool.{Bool, true, false, cond, ◌&&◌}
 use mathlib.Core.List.{List}
-use Prim.Native.Nat.{ℕ, ◌*◌, ◌-◌, ◌<◌, ◌≤◌}
+use Prim.Native.Nat.{ℕ, ◌*◌, ◌<◌, ◌≤◌}
 use native.Mathlib.Decide.{dec_lt}
 use native.Mathlib.Omega.{arith}
-use borrow.Author.Tests.{ltb-true, leb-true, eqb-true}
+use borrow.Author.Tests.{lt-ltb, ltb-true, leb-true, eqb-true}
 use lib.Dec.{eqb, ltb, leb}
 use lib.IntN.{ℤ}
 use lib.ListN.{length, get_or, take, get_or-eq_default}
 use lib.Seq.{length-take-le, get_or-take}
+use Rattle.std.specs.Prelude.{◌↔◌, IsTrue, EachIndex, slice_index}
 use Rattle.general.proofs.Cases.{both}
-use Rattle.machine.proofs.Form.{all-below}
+use Rattle.std.proofs.lemmas.Bool.Decides.{same_from_decides}
+use Rattle.machine.proofs.Form.{all-below, below_all}
 use Rattle.writers.specs.Writers.{WriteLists}
 use Rattle.search.specs.Searches.{PlacesWithin}
 use Rattle.search_exports.specs.Answers.{each_below, table_refusal}
@@ -20,43 +22,15 @@ use Rattle.search_exports.specs.Answers.{each_below, table_refusal}
 below-limit : (limit : ℕ) (l : List ℕ) → each_below limit l ≡ true → (i : ℕ) → i < length l → get_or l i 0 < limit
 below-limit limit l e i h = ltb-true (get_or l i 0) limit (all-below (length l) (λ j. ltb (get_or l j 0) limit) e i h)
 
+-- a test that holds where each of a list is below a limit
+pub each-below : (limit : ℕ) (l : List ℕ) (b : Bool) → (IsTrue b ↔ EachIndex l (λ k. slice_index l k < limit)) → b ≡ each_below limit l
+each-below limit l b h = same_from_decides b (each_below limit l) h (below-limit limit l, λ f. below_all (length l) (λ i. ltb (get_or l i 0) limit) (λ i q. lt-ltb (get_or l i 0) limit (f i q)))
+
 -- both tests of a choice whose outcome is 0
 accepted : (a b : Bool) → ◌≡◌ {A = ℕ} (cond a (cond b 0 2) 1) 0 → (a ≡ true) × (b ≡ true)
 accepted true true e = (refl, refl)
 accepted true false e = absurd (omega (arith, e))
 accepted false b e = absurd (omega (arith, e))
-
--- ---- the tests, in turn
-
-module _ (position : ℕ) (order writes : List ℕ) (targets written : ℕ) where
-  -- at most 4,096 places, and as many entries of the order list as are searched
-  abbrev pub few : Bool
-  few = leb (length writes) 4096 && leb position (length order)
-
-  -- 32 slots a place
-  abbrev pub sized : Bool
-  sized = eqb targets (32 * length writes) && eqb written (32 * length writes)
-
-  pub refused-many : few ≡ false → 1 ≡ table_refusal position order writes targets written
-  unfolding table_refusal
-  refused-many e = rw e
-
-  module _ (f : few ≡ true) where
-    pub refused-sizes : sized ≡ false → 1 ≡ table_refusal position order writes targets written
-    unfolding table_refusal
-    refused-sizes e = rw (f, e)
-
-    -- the entries of the order list as they are lent, and the counts
-    module _ (s : sized ≡ true) {placed short : Bool} (p : placed ≡ each_below (length writes) (take (position - 0) order)) (q : short ≡ each_below 33 writes) where
-      contents : table_refusal position order writes targets written ≡ cond (placed && short) 0 2
-      unfolding table_refusal
-      contents = let e : position - 0 ≡ position = omega arith in rw (f, s, p, q, e)
-
-      pub refused-contents : (placed && short) ≡ false → 2 ≡ table_refusal position order writes targets written
-      refused-contents e = sym (contents ∙ ap (λ (b : Bool). cond b 0 2) e)
-
-      pub passed : (placed && short) ≡ true → 0 ≡ table_refusal position order writes targets written
-      passed e = sym (contents ∙ ap (λ (b : Bool). cond b 0 2) e)
 
 module _ (position : ℕ) (order writes targets : List ℕ) (written : List ℤ) where
   -- tables that are not refused can be searched

@@ -14,6 +14,7 @@ fn each_below(limit: usize, list: &[u16]) -> bool
 }
 
 // 0 where the changes below a position can be searched, 1 where a table has a wrong length, 2 where an entry of the order list is no place or a list is too long.
+#[tactic(auto, using(std::proofs::lemmas::Bool::Decides::nat_tests), unfolding(crate::specs::Answers::table_refusal))]
 fn table_refusal(
     position: usize,
     order: &[u16],
@@ -48,6 +49,7 @@ fn number_of(found: Option<i32>) -> i64
 
 // For each of some settings, the value of its highest write by a change below a position of the order list, or 2^32 where none writes it. The answer is 0; or it is 1 where a lent slice has a wrong length, 2 where one of the first entries of the order list is no
 // place or a count is above 32, and the answers stay as they are.
+#[tactic(auto, using(std::proofs::lemmas::Bool::Decides::nat_tests), unfolding(crate::specs::Answers::searches_report))]
 #[unsafe(no_mangle)]
 pub extern "C" fn tolbezun_previous_writes(
     settings: &[u16],

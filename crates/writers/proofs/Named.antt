@@ -1,31 +1,17 @@
 -- A list of settings that is looked through for one, and what a list that does not name it gives.
 use mathlib.Core.Path.{◌≡◌, refl, sym, ap, ◌∙◌}
-use mathlib.Core.Bool.{Bool, false, ◌||◌, or_assoc, or-false}
+use mathlib.Core.Bool.{Bool, false}
 use mathlib.Core.List.{List, [], ◌∷◌}
 use mathlib.Core.Option.{none}
-use Prim.Native.Nat.{ℕ, zero, suc, ◌+◌, ◌-◌, ◌*◌, ◌<◌, ◌≤◌}
-use native.Mathlib.Numerals.{add-one}
+use Prim.Native.Nat.{ℕ, zero, suc, ◌+◌, ◌-◌, ◌*◌}
 use native.Mathlib.Omega.{arith}
 use lib.Dec.{eqb}
 use lib.IntN.{ℤ}
-use lib.ListN.{length, get_or, take, drop, drop_of_length-le}
-use lib.Seq.{drop-cons}
+use lib.ListN.{take, drop}
 use Rattle.machine.specs.Settings.{entries, lookup}
 use Rattle.general.proofs.Cases.{neither}
 use Rattle.model.specs.Form.{holds}
 use Rattle.model.specs.Tables.{slots}
-
--- ---- a list of settings
-
-module _ (s : ℕ) (settings : List ℕ) (j : ℕ) (found : Bool) where
-  pub names-next : j < length settings → ((found || eqb (get_or settings j 0) s) || holds s (drop (j + 1) settings)) ≡ (found || holds s (drop j settings))
-  names-next h =
-      or_assoc found (eqb (get_or settings j 0) s) (holds s (drop (j + 1) settings))
-      ∙ ap (λ (m : ℕ). found || (eqb (get_or settings j 0) s || holds s (drop m settings))) (add-one j)
-      ∙ ap (λ (l : List ℕ). found || holds s l) (sym (drop-cons settings j 0 h))
-
-  pub names-end : length settings ≤ j → found ≡ (found || holds s (drop j settings))
-  names-end h = rw (drop_of_length-le settings {i = j} h) (sym (or-false found))
 
 -- the first slots of a place, as they are lent
 pub lent-first : (place count : ℕ) (l : List ℕ) → take (32 * place + count - 32 * place) (drop (32 * place) l) ≡ slots 32 place count l

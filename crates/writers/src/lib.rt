@@ -12,10 +12,8 @@ pub fn names_setting(s: u16, settings: &[u16]) -> bool
     ensures { result ≡ holds s settings.now }
 {
     let mut found = false;
-    let mut j = 0;
-    while j < settings.len() {
-        found = found | (settings[j] == s);
-        j += 1;
+    for x in settings {
+        found |= *x == s;
     }
     found
 }
@@ -37,9 +35,7 @@ pub fn written_at(
     if !names_setting(s, &targets[start..start + count]) {
         return None;
     }
-    let mut j = count;
-    while 0 < j {
-        j -= 1;
+    for j in (0..count).rev() {
         if targets[start + j] == s {
             return Some(written[start + j]);
         }

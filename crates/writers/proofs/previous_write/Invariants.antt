@@ -1,5 +1,5 @@
 -- `writers::previous_write`: no change that the loop has passed writes the setting.
-use Rattle.std.proofs.Common.{◌≡◌, ◌≤◌}
+use Rattle.std.proofs.Common.{◌≡◌}
 use Rattle.writers.specs.Writers.{previous_write}
 use Rattle.writers.proofs.previous_write.Given as goal
 
