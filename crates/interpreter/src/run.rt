@@ -40,8 +40,8 @@ pub fn run_program(version: u16, program: &[u8], values: &[i32], lists: &mut Lis
 }
 
 // The first count entries of a write list carried into some values.
-pub fn carry(targets: &[u16; 32], written: &[i32; 32], count: usize, values: &mut [i32])
-    requires { (count ≤ 32) × (length targets.now ≡ 32) × (length written.now ≡ 32) × ((k : ℕ) → k < count → get_or targets.now k 0 < length values.old) }
+pub fn carry(targets: &[u16], written: &[i32], count: usize, values: &mut [i32])
+    requires { (count ≤ length targets.now) × (count ≤ length written.now) × ((k : ℕ) → k < count → get_or targets.now k 0 < length values.old) }
     ensures { values.new ≡ carry (entries count targets.now written.now) values.old }
 {
     let mut i = 0;
