@@ -33,19 +33,11 @@ fn result(operation: u8, n: i32, x: i32, y: i32) -> i32
 fn distance(operation: u8, n: i32, x: i32) -> i32
     ensures { result ≡ distance_of operation n x }
 {
-    if operation == 15 {
-        if words::is_negative(x) {
-            return n;
-        }
-        return 0;
+    match operation {
+        15 if !words::is_negative(x) => 0,
+        16 if !words::is_zero(x) => 0,
+        _ => n,
     }
-    if operation == 16 {
-        if words::is_zero(x) {
-            return n;
-        }
-        return 0;
-    }
-    n
 }
 
 // The setting of this number, if it is below 1,024.
