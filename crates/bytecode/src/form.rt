@@ -9,21 +9,14 @@ use crate::program::{encoding_at, word_at};
 pub fn is_below(n: i32, limit: usize) -> bool
     ensures { result ≡ is_below n limit }
 {
-    if n < 0 {
-        return false;
-    }
-    let k = n as usize;
-    k < limit
+    0 <= n && (n as usize) < limit
 }
 
 // Whether a program has at most 256 bytes, a multiple of 8: not refusal 6.
 pub fn length_fits(program: &[u8]) -> bool
     ensures { result ≡ length_fits program.now }
 {
-    if 256 < program.len() {
-        return false;
-    }
-    program.len() % 8 == 0
+    program.len() <= 256 && program.len() % 8 == 0
 }
 
 // The bits that are 0 in a well-formed instruction, by its operation: from the left those of n, c, b, a and the operation.
@@ -69,19 +62,17 @@ pub fn well_formed(program: &[u8]) -> bool
 {
     let count = program.len() / 8;
     let mut any = 0;
-    let mut place = 0;
-    while place < count {
+    for place in 0..count {
         let at = place * 8;
         let operation = program[at];
         if 17 < operation {
             return false;
         }
         let n = word_at(program, at + 4);
-        any = any | (encoding_at(program, at) & mask_of(operation));
+        any |= encoding_at(program, at) & mask_of(operation);
         if count - place <= reach_of(operation, n) {
             return false;
         }
-        place += 1;
     }
     any == 0
 }

@@ -5,24 +5,17 @@ ghost use Rattle.bytecode.specs.Masks.{encoding_at};
 
 use machine::Instruction;
 
-// The word in four bytes, low byte first.
-fn word_in(a: u8, b: u8, c: u8, d: u8) -> u32
-    ensures { result ≡ a + b * 256 + (c * 65536 + d * 16777216) }
+// The word in four bytes from a first one on, low byte first.
+pub fn word_at(program: &[u8], first: usize) -> u32
+    requires { first + 4 ≤ length program.now }
+    ensures { result ≡ word_at program.now first }
 {
-    a as u32 + b as u32 * 256 + c as u32 * 65536 + d as u32 * 16777216
-}
-
-// The word in the four bytes at an index.
-pub fn word_at(program: &[u8], at: usize) -> u32
-    requires { at + 4 ≤ length program.now }
-    ensures { result ≡ word_at program.now at }
-{
-    word_in(
-        program[at],
-        program[at + 1],
-        program[at + 2],
-        program[at + 3],
-    )
+    u32::from_le_bytes([
+        program[first],
+        program[first + 1],
+        program[first + 2],
+        program[first + 3],
+    ])
 }
 
 // The eight bytes at an index as one number, low byte first.
@@ -30,7 +23,16 @@ pub fn encoding_at(program: &[u8], at: usize) -> u64
     requires { at + 8 ≤ length program.now }
     ensures { result ≡ encoding_at program.now at }
 {
-    word_at(program, at) as u64 + word_at(program, at + 4) as u64 * 4294967296
+    u64::from_le_bytes([
+        program[at],
+        program[at + 1],
+        program[at + 2],
+        program[at + 3],
+        program[at + 4],
+        program[at + 5],
+        program[at + 6],
+        program[at + 7],
+    ])
 }
 
 // The instruction at a place.

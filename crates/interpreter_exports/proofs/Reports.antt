@@ -2,15 +2,12 @@
 use mathlib.Core.Path.{◌≡◌, refl, sym, ap, ◌∙◌}
 use mathlib.Core.Bool.{Bool, true, false, cond, ◌&&◌}
 use mathlib.Core.List.{List, [], ◌∷◌}
-use Prim.Native.Nat.{ℕ, zero, suc, ◌+◌, ◌*◌, ◌≤◌, ◌<◌}
-use native.Mathlib.Nat.{zero-add}
-use native.Mathlib.Numerals.{add-one}
+use Prim.Native.Nat.{ℕ, zero, suc, ◌+◌, ◌*◌, ◌≤◌}
 use native.Mathlib.Omega.{arith}
 use borrow.Author.Tests.{eqb-true, not-false}
 use lib.Dec.{eqb}
 use lib.IntN.{ℤ}
-use lib.ListN.{length, get_or, set, take}
-use lib.Seq.{paste, paste-suc, length-take-le}
+use lib.ListN.{length, take}
 use Rattle.machine.specs.Settings.{value_in, entries}
 use Rattle.machine.specs.Instruction.{Code}
 use Rattle.machine.specs.Form.{all_well_formed}
@@ -22,8 +19,9 @@ use Rattle.model.specs.Refusals.{wrong_program_length, no_version, malformed}
 use Rattle.model.proofs.Items.{none-applies}
 use Rattle.model.proofs.Entries.{settings-entries, values-entries, length-entries}
 use Rattle.run_record.specs.declared.Run.{Run}
-use Rattle.run_record.specs.Record.{ended, ending_of, Lists, lists, Sized, Ran}
-use Rattle.interpreter_exports.specs.Numbers.{refusal_of, ending_number, outcome_number, run_refusal, over, reported, of_run, report_by, report}
+use Rattle.run_record.specs.declared.Lists.{Lists}
+use Rattle.run_record.specs.Record.{ending_of, lists, Sized, Ran}
+use Rattle.interpreter_exports.specs.Numbers.{refusal_of, outcome_number, run_refusal, over, reported, of_run, report_by, report}
 
 -- a program that is not refused is short and well formed
 accepted : (p : Code) → refusal_of p ≡ 0 → (length p.bytes ≤ 256) × (all_well_formed p.bytes ≡ true)
@@ -31,32 +29,6 @@ unfolding refusal_of
 accepted p e =
     let z = none-applies (wrong_program_length p ∷ no_version p ∷ malformed p ∷ []) (omega arith) e in
     (length-short p.bytes (not-false _ z.0), not-false _ z.1.1.0)
-
--- ---- the number of an outcome
-
--- the number of a record's outcome, as the code makes it of e, the number of its ending, and the test whether e is 0
-pub number-by-state : (r : Run) (lengths : ℕ) {e : ℕ} {t : Bool} → e ≡ ending_number r.state → eqb e 0 ≡ t → cond t lengths (lengths + e * 4096 + r.place * 65536) ≡ outcome_number lengths (ending_of r)
-number-by-state r lengths q u = rw (← u, q) (go r.state)
-  where
-    go : (s : ℕ) → cond (eqb (ending_number s) 0) lengths (lengths + ending_number s * 4096 + r.place * 65536) ≡ outcome_number lengths (ending_of (ended r s 0))
-    go zero = refl
-    go (suc zero) = refl
-    go (suc (suc zero)) = refl
-    go (suc (suc (suc zero))) = refl
-    go (suc (suc (suc (suc s)))) = refl
-
--- ---- a copy of the first elements
-
-module _ {A : Type 0} (list old : List A) (i : ℕ) {l : List A} (so_far : l ≡ paste old 0 list i) where
-  -- one element more
-  pub copied_more : (z : A) → i < length list → i < length old → set l i (get_or list i z) ≡ paste old 0 list (i + 1)
-  copied_more z h q =
-      let e : 0 + i ≡ i = omega arith in
-      rw (add-one i, so_far) (ap (λ (k : ℕ). set (paste old 0 list i) k (get_or list i z)) (sym e) ∙ paste-suc old 0 list i z (omega arith) h)
-
-  -- all of them
-  pub copied_all : i ≤ length list → l ≡ over (take i list) old
-  copied_all h = so_far ∙ rw (length-take-le i list h, zero-add i)
 
 -- ---- the report
 
@@ -90,18 +62,18 @@ module _ (code : Code) (values : List ℤ) (l : Lists) where
           )
 
   -- the record and the arrays of a run, copied over the lent lists
-  pub ran : {n k : ℕ} {r : Run} {m : Lists} {a c : List ℕ} {b d : List ℤ} → k ≡ refusal → k ≡ 0 → Ran r m (run (value_in values) code)
+  pub ran : {n k : ℕ} {r : Run} {m : Lists} {a c : List ℕ} {b d : List ℤ} → k ≡ refusal → k ≡ 0 → Ran r m (run (value_in values) code) → Sized m
       → a ≡ over (take r.reads m.sources) l.sources → b ≡ over (take r.reads m.seen) l.seen
       → c ≡ over (take r.writes m.targets) l.targets → d ≡ over (take r.writes m.written) l.written
       → n ≡ outcome_number (r.reads + r.writes * 64) (ending_of r) → reported n (lists a b c d) ≡ report code values l
   unfolding report
-  ran {r = r} {m} e z h p q s t u =
-      let reads : length (entries r.reads m.sources m.seen) ≡ r.reads = length-entries _ _ _ (omega (arith, h)) (omega (arith, h)) in
-      let writes : length (entries r.writes m.targets m.written) ≡ r.writes = length-entries _ _ _ (omega (arith, h)) (omega (arith, h)) in
-      let sources : settings_of (entries r.reads m.sources m.seen) ≡ take r.reads m.sources = settings-entries _ _ _ (omega (arith, h)) in
-      let seen : values_of (entries r.reads m.sources m.seen) ≡ take r.reads m.seen = values-entries _ _ _ (omega (arith, h)) in
-      let targets : settings_of (entries r.writes m.targets m.written) ≡ take r.writes m.targets = settings-entries _ _ _ (omega (arith, h)) in
-      let written : values_of (entries r.writes m.targets m.written) ≡ take r.writes m.written = values-entries _ _ _ (omega (arith, h)) in
+  ran {r = r} {m} e z h f p q s t u =
+      let reads : length (entries r.reads m.sources m.seen) ≡ r.reads = length-entries _ _ _ (omega (arith, h, f)) (omega (arith, h, f)) in
+      let writes : length (entries r.writes m.targets m.written) ≡ r.writes = length-entries _ _ _ (omega (arith, h, f)) (omega (arith, h, f)) in
+      let sources : settings_of (entries r.reads m.sources m.seen) ≡ take r.reads m.sources = settings-entries _ _ _ (omega (arith, h, f)) in
+      let seen : values_of (entries r.reads m.sources m.seen) ≡ take r.reads m.seen = values-entries _ _ _ (omega (arith, h, f)) in
+      let targets : settings_of (entries r.writes m.targets m.written) ≡ take r.writes m.targets = settings-entries _ _ _ (omega (arith, h, f)) in
+      let written : values_of (entries r.writes m.targets m.written) ≡ take r.writes m.written = values-entries _ _ _ (omega (arith, h, f)) in
       (λ i. reported (u i) (lists (p i) (q i) (s i) (t i)))
       ∙ sym (λ i. reported (outcome_number (reads i + writes i * 64) (ending_of r)) (lists (over (sources i) l.sources) (over (seen i) l.seen) (over (targets i) l.targets) (over (written i) l.written)))
       ∙ ap (λ (o : Outcome). of_run o l) h.outcome

@@ -1,19 +1,16 @@
 -- Answers of the exported functions as numbers.
-use Rattle.std.specs.Prelude.{cond, ◌&&◌, List, [], ◌∷◌, ◌++◌, ℕ, zero, suc, ◌+◌, ◌*◌, eqb, ℤ, length, get_or, drop}
+use Rattle.std.specs.Prelude.{cond, ◌&&◌, List, [], ◌∷◌, ◌++◌, ℕ, zero, suc, ◌+◌, ◌*◌, eqb, ℤ, length, drop}
 use Rattle.machine.specs.Settings.{value_in}
 use Rattle.machine.specs.Instruction.{Code}
 use Rattle.machine.specs.Run.{Fault, no_setting, reads_written, writes_twice, Ending, completed, faulted, Outcome, run}
 use Rattle.model.specs.Tables.{settings_of, values_of}
 use Rattle.model.specs.Refusals.{first_of, wrong_program_length, no_version, malformed}
-use Rattle.run_record.specs.Record.{Lists, lists}
+use Rattle.run_record.specs.declared.Lists.{Lists}
+use Rattle.run_record.specs.Record.{lists}
 
 -- 6 for a wrong length, 13 for a version above 1, 7 for an instruction that is not well formed, else 0
 unfoldable pub refusal_of : Code → ℕ
 refusal_of p = first_of (wrong_program_length p ∷ no_version p ∷ malformed p ∷ [])
-
--- the number of an ending by a record's state
-abbrev pub ending_number : ℕ → ℕ
-ending_number state = get_or (0 ∷ 0 ∷ 1 ∷ 2 ∷ []) state 3
 
 -- the number of a fault
 abbrev pub fault_number : Fault → ℕ

@@ -3,12 +3,12 @@
 
 ghost use Rattle.std.specs.Prelude.{◌≡◌, ◌+◌, ◌*◌, ◌≤◌, length, take};
 ghost use Rattle.machine.specs.Instruction.{code};
-ghost use Rattle.run_record.specs.Record.{ending_of, lists};
-ghost use Rattle.interpreter_exports.specs.Numbers.{refusal_of, ending_number, outcome_number, run_refusal, over, reported, report};
+ghost use Rattle.run_record.specs.Record.{ending_of, fault_of, lists};
+ghost use Rattle.interpreter_exports.specs.Numbers.{refusal_of, fault_number, outcome_number, run_refusal, over, reported, report};
 
 use bytecode::form::{length_fits, well_formed};
 use interpreter::run::run_program;
-use run_record::Run;
+use run_record::{Fault, Lists, Run, Status};
 
 // 0 if a program of a version is accepted, else its refusal, 6, 13 or 7.
 #[unsafe(no_mangle)]
@@ -27,16 +27,14 @@ pub extern "C" fn tolbezun_program_refusal(version: u16, program: &[u8]) -> u8
     0
 }
 
-// How a run ended: 0 completed, 1 a register named no setting, 2 read a setting that it had written, 3 wrote one twice.
-fn ending(state: u8) -> u32
-    ensures { (result ≡ ending_number state) × (result ≤ 3) }
+// The number of a fault: 1 a register named no setting, 2 read a setting that it had written, 3 wrote one twice.
+fn fault_number(fault: Fault) -> u32
+    ensures { (result ≡ fault_number (fault_of fault)) × (result ≤ 3) }
 {
-    match state {
-        0 => 0,
-        1 => 0,
-        2 => 1,
-        3 => 2,
-        _ => 3,
+    match fault {
+        Fault::NoSetting => 1,
+        Fault::ReadsWritten => 2,
+        Fault::WritesTwice => 3,
     }
 }
 
@@ -46,11 +44,12 @@ fn number_of(run: Run) -> u32
     ensures { result ≡ outcome_number (run.reads + run.writes * 64) (ending_of run) }
 {
     let lengths = run.reads as u32 + run.writes as u32 * 64;
-    let end = ending(run.state);
-    if end == 0 {
-        return lengths;
+    match run.status {
+        Status::Going | Status::Stopped => lengths,
+        Status::Faulted(fault) => {
+            lengths + fault_number(fault) * 4096 + run.place as u32 * 65536
+        }
     }
-    lengths + end * 4096 + run.place as u32 * 65536
 }
 
 // 0 where a program can be run into lists of these lengths: 1 where one of them is not 32, else the program's refusal.
@@ -64,7 +63,7 @@ fn run_refusal(
 ) -> u8
     ensures { result ≡ run_refusal (code version program.now) sources seen targets written }
 {
-    if !((sources == 32) & (seen == 32) & (targets == 32) & (written == 32)) {
+    if sources != 32 || seen != 32 || targets != 32 || written != 32 {
         return 1;
     }
     tolbezun_program_refusal(version, program)
@@ -77,28 +76,12 @@ fn refused_number(refusal: u8) -> u32
     16777216 + refusal as u32
 }
 
-// The first count settings of a list, put over the first of a lent one.
-fn copy_settings(count: usize, list: &[u16; 32], lent: &mut [u16])
-    requires { (count ≤ 32) × (length list.now ≡ 32) × (length lent.old ≡ 32) }
+// The first count elements of a list, put over those of a lent one.
+fn copy_first<T: Copy>(count: usize, list: &[T], lent: &mut [T])
+    requires { (count ≤ length list.now) × (count ≤ length lent.old) }
     ensures { lent.new ≡ over (take count list.now) lent.old }
 {
-    let mut i = 0;
-    while i < count {
-        lent[i] = list[i];
-        i += 1;
-    }
-}
-
-// The first count values of a list, put over the first of a lent one.
-fn copy_values(count: usize, list: &[i32; 32], lent: &mut [i32])
-    requires { (count ≤ 32) × (length list.now ≡ 32) × (length lent.old ≡ 32) }
-    ensures { lent.new ≡ over (take count list.now) lent.old }
-{
-    let mut i = 0;
-    while i < count {
-        lent[i] = list[i];
-        i += 1;
-    }
+    lent[..count].copy_from_slice(&list[..count]);
 }
 
 // Runs a program by the rules of a version on 1,024 values; where there are fewer, the others are 0. Where a lent list has another length than 32 or the program is
@@ -129,22 +112,11 @@ pub extern "C" fn tolbezun_program_run(
     if refusal != 0 {
         return refused_number(refusal);
     }
-    let mut read = [0u16; 32];
-    let mut found = [0i32; 32];
-    let mut stored = [0u16; 32];
-    let mut given = [0i32; 32];
-    let run = run_program(
-        version,
-        program,
-        values,
-        &mut read,
-        &mut found,
-        &mut stored,
-        &mut given,
-    );
-    copy_settings(run.reads, &read, sources);
-    copy_values(run.reads, &found, seen);
-    copy_settings(run.writes, &stored, targets);
-    copy_values(run.writes, &given, written);
+    let mut lists = Lists::new();
+    let run = run_program(version, program, values, &mut lists);
+    copy_first(run.reads, &lists.sources, sources);
+    copy_first(run.reads, &lists.seen, seen);
+    copy_first(run.writes, &lists.targets, targets);
+    copy_first(run.writes, &lists.written, written);
     number_of(run)
 }

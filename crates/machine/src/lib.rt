@@ -2,8 +2,7 @@
 #![tactic(auto)]
 
 // One instruction: operation, a, b, c and n.
-#[derive(Drop)]
-#[derive(Clone, Copy)]
+#[derive(Clone, Copy, Drop)]
 pub struct Instruction {
     pub operation: u8,
     pub a: u8,
@@ -14,8 +13,7 @@ pub struct Instruction {
 
 // What an operation takes n for: nothing (n is 0), any number, a number of bits to shift by, a setting, a number of
 // instructions to pass over.
-#[derive(Drop)]
-#[derive(Clone, Copy)]
+#[derive(Clone, Copy, Drop)]
 pub enum Operand {
     Unused,
     Number,
@@ -25,8 +23,7 @@ pub enum Operand {
 }
 
 // What an operation takes: a, b and c are below these limits, n is of this kind.
-#[derive(Drop)]
-#[derive(Clone, Copy)]
+#[derive(Clone, Copy, Drop)]
 pub struct Format {
     pub a: u8,
     pub b: u8,
@@ -35,8 +32,7 @@ pub struct Format {
 }
 
 // What an instruction does, once its registers are read.
-#[derive(Drop)]
-#[derive(Clone, Copy)]
+#[derive(Clone, Copy, Drop)]
 pub enum Effect {
     // The run stops.
     Halt,

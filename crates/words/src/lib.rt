@@ -6,57 +6,39 @@ ghost use Rattle.std.specs.Int.Bits.{bit_and, bit_or, bit_xor};
 ghost use Rattle.std.specs.Int.Signed.{lt_z};
 ghost use Rattle.words.specs.Words.{pattern_of, number_of, wrap, floor_div, ones_of, is_zero};
 
-// The low 32 bits of a 64-bit number.
-fn low_bits(x: i64) -> u32
-    ensures { result ≡ pattern_of x }
-{
-    (x & 4294967295) as u32
-}
-
 // The 32-bit pattern of a number.
 pub fn pattern(x: i32) -> u32
     ensures { result ≡ pattern_of x }
 {
-    low_bits(x as i64)
+    x.cast_unsigned()
 }
 
 // The number of a 32-bit pattern.
 pub fn number(p: u32) -> i32
     ensures { result ≡ number_of p }
 {
-    if p < 2147483648 {
-        p as i32
-    } else {
-        (p as i64 - 4294967296) as i32
-    }
-}
-
-// A 64-bit number wrapped to 32 bits.
-fn wrapped(x: i64) -> i32
-    ensures { result ≡ wrap x }
-{
-    number(low_bits(x))
+    p.cast_signed()
 }
 
 // a + b, wrapped.
 pub fn wrapping_add(a: i32, b: i32) -> i32
     ensures { result ≡ wrap (a +ℤ b) }
 {
-    wrapped(a as i64 + b as i64)
+    a.wrapping_add(b)
 }
 
 // a - b, wrapped.
 pub fn wrapping_sub(a: i32, b: i32) -> i32
     ensures { result ≡ wrap (a -ℤ b) }
 {
-    wrapped(a as i64 - b as i64)
+    a.wrapping_sub(b)
 }
 
 // -a, wrapped.
 pub fn wrapping_neg(a: i32) -> i32
     ensures { result ≡ wrap (neg_ℤ a) }
 {
-    wrapping_sub(0, a)
+    a.wrapping_neg()
 }
 
 // a divided by 2^n, rounded down.
@@ -71,7 +53,7 @@ pub fn shift_right(a: i32, n: u32) -> i32
 pub fn count_ones(a: i32) -> i32
     ensures { result ≡ pos (ones_of (pattern_of a)) }
 {
-    u32::count_ones(pattern(a)) as i32
+    a.count_ones() as i32
 }
 
 // The bitwise and.
