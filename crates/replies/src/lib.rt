@@ -51,16 +51,16 @@ fn put_turns(
         TurnsPut T at text.old text.new view.new result }
 {
     let mut end = at;
-    let mut idle = false;
-    while !idle {
+    loop {
         let answer = turn(
             CAPACITY, held, timestamps, order, status, withdrawn, lengths, programs, reads, writes,
             sources, seen, targets, written, view, versions, cutoff, kept,
         );
         end = put_turn(answer, text, end);
-        idle = is_idle(answer);
+        if is_idle(answer) {
+            return end;
+        }
     }
-    end
 }
 
 // The lines of a package's reply: its refusal, or its entries, the turns of one drain, and the settings that differ from their start.
