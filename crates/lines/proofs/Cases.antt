@@ -2,7 +2,7 @@
 use mathlib.Core.Path.{◌≡◌}
 use mathlib.Core.List.{[], ◌++◌}
 use Prim.Native.Nat.{ℕ}
-use borrow.Author.Tests.{eq-eqb, ne_eqb}
+use borrow.Author.Tests.{ne_eqb}
 use lib.IntN.{ℤ}
 use mir.Syntax.{w32}
 use mir.Val.{SFits, to_z, of_z}
@@ -12,21 +12,9 @@ use Rattle.text.specs.Decimal.{decimal, signed_decimal}
 use Rattle.model.proofs.Values.{same_bits, other-bits}
 use Rattle.lines.specs.Lines.{outcome, setting_line}
 
--- what became of an entry
-module _ (kind : ℕ) {answer : ℕ} where
-  pub outcome-held : answer ≡ 255 → ascii "held" ≡ outcome kind answer
-  outcome-held e = rw (eq-eqb answer 255 e)
-
-  module _ (h : answer ≡ 255 → ⊥) where
-    pub outcome-refused : (answer ≡ 0 → ⊥) → ascii "refused " ++ decimal answer ≡ outcome kind answer
-    outcome-refused n = rw (ne_eqb answer 255 h, ne_eqb answer 0 n)
-
-    module _ (z : answer ≡ 0) where
-      pub outcome-taken : kind ≡ 0 → ascii "taken" ≡ outcome kind answer
-      outcome-taken e = rw (ne_eqb answer 255 h, eq-eqb answer 0 z, eq-eqb kind 0 e)
-
-      pub outcome-withdrawn : (kind ≡ 0 → ⊥) → ascii "withdrawn" ≡ outcome kind answer
-      outcome-withdrawn n = rw (ne_eqb answer 255 h, eq-eqb answer 0 z, ne_eqb kind 0 n)
+-- an entry that is refused
+pub outcome-refused : (kind : ℕ) {answer : ℕ} → (answer ≡ 255 → ⊥) → (answer ≡ 0 → ⊥) → ascii "refused " ++ decimal answer ≡ outcome kind answer
+outcome-refused kind {answer} h n = rw (ne_eqb answer 255 h, ne_eqb answer 0 n)
 
 -- the line of a setting whose value is read from its bits
 module _ (s : ℕ) (start : ℤ) {v : ℤ} (f : SFits w32 v) where

@@ -1,8 +1,8 @@
 -- The lines of a drain, turn by turn.
 use mathlib.Core.Path.{◌≡◌, refl, sym, ap, subst, ◌∙◌}
-use mathlib.Core.Bool.{Bool, true, false, cond}
-use mathlib.Core.List.{List, [], ◌++◌, append_assoc, append-nil}
-use Prim.Native.Nat.{ℕ, suc, ◌+◌, ◌*◌, ◌≤◌, ◌<◌}
+use mathlib.Core.Bool.{Bool, true, false}
+use mathlib.Core.List.{List, [], ◌++◌, append_assoc}
+use Prim.Native.Nat.{ℕ, ◌+◌, ◌*◌, ◌≤◌, ◌<◌}
 use native.Mathlib.Omega.{arith}
 use lib.ListN.{length}
 use Rattle.general.proofs.Cases.{true-is-not-false}
@@ -13,7 +13,6 @@ use Rattle.model.specs.Tables.{Tables}
 use Rattle.model.specs.Form.{Formed}
 use Rattle.model.specs.Calls.{Reply, reply, turn, drain}
 use Rattle.model.specs.Log.{turn_call, drain_turns, after_call, begun}
-use Rattle.model.proofs.Tests.{Lengths}
 use Rattle.model.proofs.Form.{facts}
 use Rattle.theory.proofs.AnyTables.{calls-keep-form, drains-any, drains-by-turns}
 use Rattle.lines.specs.Lines.{turn_line}
@@ -37,12 +36,8 @@ turn-formed T g = calls-keep-form capacity turn_call (begun T) g
 
 -- ---- a drain under way
 
--- how many turns are left, one for the idle one
-abbrev pub turns_left : Tables → Bool → ℕ
-turns_left T idle = cond idle 0 (suc (length (drain_turns capacity T)))
-
 -- lines of the turns so far are put; with those of the turns left they are the lines of the whole drain
-pub record Turning (T₀ : Tables) (at : ℕ) (before : List ℕ) (T : Tables) (text : List ℕ) (end : ℕ) (idle : Bool) : Type 0 where
+pub record Turning (T₀ : Tables) (at : ℕ) (before : List ℕ) (T : Tables) (text : List ℕ) (end : ℕ) : Type 0 where
   pub formed : Formed capacity T
   pub lines : List ℕ
   pub put : Put at lines before text end
@@ -50,13 +45,8 @@ pub record Turning (T₀ : Tables) (at : ℕ) (before : List ℕ) (T : Tables) (
   pub short : end + 64 * length (drain_turns capacity T) ≤ at + 8192
   pub left : (drain capacity T).tables ≡ (drain capacity T₀).tables
   pub same : length text ≡ length before
-  pub ended : idle ≡ true → (turn capacity T).answer ≡ Turned.Idle
 
--- from T to U there is a turn less
-abbrev Next : Tables → ℕ → List ℕ → Tables → Tables → List ℕ → ℕ → Bool → Type 0
-Next T₀ at before T U text end idle = Turning T₀ at before U text end idle × (turns_left U idle < turns_left T false)
-
-pub turning-begins : (T : Tables) (at : ℕ) (text : List ℕ) → Formed capacity T → Turning T at text T text at false
+pub turning-begins : (T : Tables) (at : ℕ) (text : List ℕ) → Formed capacity T → Turning T at text T text at
 turning-begins T at text g =
     let few = (drains-any capacity T g).few-turns in
     record {
@@ -67,30 +57,35 @@ turning-begins T at text g =
       short = omega (arith, few, (facts g).form.small);
       left = refl;
       same = refl;
-      ended = λ q. true-is-not-false (sym q);
     }
 
-module _ {T₀ : Tables} {at : ℕ} {before : List ℕ} {T : Tables} {text : List ℕ} {end : ℕ} {idle : Bool} (k : Turning T₀ at before T text end idle) where
-  -- after one turn and its line
-  module _ (room : at ≤ length before) {last : List ℕ} {r : ℕ} (short : r ≤ end + 64) (same : length last ≡ length text) where
-    after_turn : (b : Bool) → is_idle (turn capacity T).answer ≡ b → Put end (turn_line (turn capacity T).answer) text last r → Next T₀ at before T (turn capacity T).tables last r b
-    after_turn true q p =
-        let i = idle-is (turn capacity T).answer q in
-        let none : Put end [] text last r = put_as p (ap turn_line i) in
-        subst (λ (U : Tables). Next T₀ at before T U last r true) (sym ((drains-by-turns capacity T k.formed).idle-leaves i)) (
-          record {
-            formed = k.formed;
-            lines = k.lines ++ [];
-            put = put_then k.put room none;
-            whole = ap (λ (l : List ℕ). l ++ turn_lines (drain_turns capacity T)) (append-nil k.lines) ∙ k.whole;
-            short = omega (arith, none.ends, k.short);
-            left = k.left;
-            same = same ∙ k.same;
-            ended = λ z. i;
-          },
-          omega arith,
-        )
-    after_turn false q p =
+-- from T to U there is a turn less
+abbrev Next : Tables → ℕ → List ℕ → Tables → Tables → List ℕ → ℕ → Type 0
+Next T₀ at before T U text end = Turning T₀ at before U text end × (length (drain_turns capacity U) < length (drain_turns capacity T))
+
+-- after one turn and its line
+module _ {T₀ : Tables} {at : ℕ} {before : List ℕ} {T : Tables} {text : List ℕ} {end : ℕ} (k : Turning T₀ at before T text end) (room : at ≤ length before) {last : List ℕ} {r : ℕ} where
+  -- which was idle
+  idle-ends : is_idle (turn capacity T).answer ≡ true → Put end (turn_line (turn capacity T).answer) text last r → TurnsPut T₀ at before last (turn capacity T).tables.view r
+  idle-ends q p =
+      let i = idle-is (turn capacity T).answer q in
+      let d = drains-by-turns capacity T k.formed in
+      let none = d.none_left i in
+      let nothing : Put end [] text last r = put_as p (ap turn_line i) in
+      record {
+        put = put_as (put_then k.put room nothing) (ap (λ (l : List Turned). k.lines ++ turn_lines l) (sym none.0) ∙ k.whole);
+        short = omega (arith, nothing.ends, k.short);
+        left = ap (λ (U : Tables). U.view) (d.idle-leaves i ∙ sym none.1 ∙ k.left);
+      }
+
+  pub turning-ends : {a : Turned} {U : Tables} {idle : Bool} → reply a U ≡ turn capacity T → idle ≡ is_idle a → idle ≡ true → Put end (turn_line a) text last r → TurnsPut T₀ at before last U.view r
+  turning-ends e d t p =
+      subst (λ (y : Reply Turned). is_idle y.answer ≡ true → Put end (turn_line y.answer) text last r → TurnsPut T₀ at before last y.tables.view r) (sym e) idle-ends (sym d ∙ t) p
+
+  -- which was not
+  module _ (short : r ≤ end + 64) (same : length last ≡ length text) where
+    turn-next : is_idle (turn capacity T).answer ≡ false → Put end (turn_line (turn capacity T).answer) text last r → Next T₀ at before T (turn capacity T).tables last r
+    turn-next q p =
         let d = (drains-by-turns capacity T k.formed).one_more (λ i. true-is-not-false (sym (ap is_idle i) ∙ q)) in
         let n = ap (λ (l : List Turned). length l) d.0 in (
           record {
@@ -101,29 +96,10 @@ module _ {T₀ : Tables} {at : ℕ} {before : List ℕ} {T : Tables} {text : Lis
             short = omega (arith, short, n, k.short);
             left = sym d.1 ∙ k.left;
             same = same ∙ k.same;
-            ended = λ z. true-is-not-false (sym z);
           },
           omega (arith, n),
         )
 
-    pub turning-goes-on : {a : Turned} {U : Tables} {idle' : Bool} → idle ≡ false → reply a U ≡ turn capacity T → Put end (turn_line a) text last r → idle' ≡ is_idle a → Turning T₀ at before U last r idle' × (turns_left U idle' < turns_left T idle)
-    turning-goes-on t e p d =
-        let both = subst (λ (y : Reply Turned). Put end (turn_line y.answer) text last r → Next T₀ at before T y.tables last r (is_idle y.answer)) (sym e) (after_turn (is_idle (turn capacity T).answer) refl) p in
-        rw (d, t) both
-
-  -- there is room for another line
-  pub turning-short : end ≤ at + 8192
-  turning-short = omega (arith, k.short)
-
-  pub turning-lengths : Lengths capacity T
-  turning-lengths = (facts k.formed).sizes
-
-  -- after the idle turn
-  pub turning-ends : idle ≡ true → TurnsPut T₀ at before text T.view end
-  turning-ends z =
-      let none = (drains-by-turns capacity T k.formed).none_left (k.ended z) in
-      record {
-        put = put_as k.put (sym (append-nil k.lines) ∙ ap (λ (l : List Turned). k.lines ++ turn_lines l) (sym none.0) ∙ k.whole);
-        short = turning-short;
-        left = ap (λ (U : Tables). U.view) (sym none.1 ∙ k.left);
-      }
+    pub turning-goes-on : {a : Turned} {U : Tables} {idle : Bool} → reply a U ≡ turn capacity T → idle ≡ is_idle a → idle ≡ false → Put end (turn_line a) text last r → Turning T₀ at before U last r × (length (drain_turns capacity U) < length (drain_turns capacity T))
+    turning-goes-on e d t p =
+        subst (λ (y : Reply Turned). is_idle y.answer ≡ false → Put end (turn_line y.answer) text last r → Next T₀ at before T y.tables last r) (sym e) turn-next (sym d ∙ t) p

@@ -51,16 +51,18 @@ fn put_turns(
         TurnsPut T at text.old text.new view.new result }
 {
     let mut end = at;
-    while let Ok(made) = turn(
-        CAPACITY, held, timestamps, order, status, withdrawn, lengths, programs, reads, writes,
-        sources, seen, targets, written, view, versions, cutoff, kept,
-    ) {
-        if is_idle(made) {
-            break;
-        }
+    loop {
+        let Ok(made) = turn(
+            CAPACITY, held, timestamps, order, status, withdrawn, lengths, programs, reads, writes,
+            sources, seen, targets, written, view, versions, cutoff, kept,
+        ) else {
+            unreachable!()
+        };
         end = put_turn(made, text, end);
+        if is_idle(made) {
+            return end;
+        }
     }
-    end
 }
 
 // The lines of a package's reply: its refusal, or its entries, the turns of one drain, and the settings that differ from their start.

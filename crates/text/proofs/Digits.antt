@@ -1,19 +1,17 @@
 -- The digits of a number: the fewest that hold it.
 use mathlib.Core.Path.{◌≡◌, refl, sym, ap, subst, ◌∙◌}
-use mathlib.Core.Bool.{Bool, true, false, cond, true≢false}
+use mathlib.Core.Bool.{Bool, true, false, true≢false}
 use mathlib.Core.List.{List, [], ◌∷◌, ◌++◌}
 use Prim.Native.Nat.{ℕ, zero, suc, ◌+◌, ◌-◌, ◌/◌, ◌%◌, ◌^◌, ◌≤◌, ◌<◌}
 use native.Mathlib.Nat.{pow-suc, not-suc-le-zero}
 use native.Mathlib.Omega.{arith}
 use borrow.Author.Tests.{ltb-true, leb-true, leb-false, lt-ltb, le-ltb}
-use lib.Dec.{leb, ltb}
-use lib.ListN.{length, length-append}
-use lib.IntN.{ℤ, pos, negsuc}
+use lib.Dec.{leb}
+use lib.IntN.{ℤ, pos, negsuc, nat_abs}
 use lib.Signed.{lt_z}
 use mir.Syntax.{w32}
 use mir.Val.{SFits, to_z, of_z}
 use mir.ValLaws.{to_z-of_z}
-use Rattle.words.specs.Words.{pattern_of}
 use Rattle.io.specs.Digits.{hex_digit_ascii, last_digits, IsDigitCount}
 use Rattle.text.specs.Pieces.{ascii}
 use Rattle.text.specs.Decimal.{digit, digits_within, decimal, signed_decimal}
@@ -77,40 +75,20 @@ pub all_digits : (n k : ℕ) {text : List ℕ} → n < 2 ^ 64 → IsDigitCount 1
 unfolding decimal
 all_digits n k h w e = e ∙ digits-within k 20 n (few-digits n k h w) w
 
-length-within : (k n : ℕ) → length (digits_within k n) ≤ k
-length-within zero n = omega arith
-length-within (suc k) n = go (ltb n 10) (length-within k (n / 10))
-  where
-    go : (b : Bool) → length (digits_within k (n / 10)) ≤ k → length (cond b (digit n ∷ []) (digits_within k (n / 10) ++ (digit (n % 10) ∷ []))) ≤ suc k
-    go true h = omega arith
-    go false h = let e = length-append (digits_within k (n / 10)) (digit (n % 10) ∷ []) in omega (arith, e, h)
-
-pub length-decimal : (n : ℕ) → length (decimal n) ≤ 20
-unfolding decimal
-length-decimal n = length-within 20 n
-
 -- ---- signed numbers
 
-negative-digits : (z : ℤ) → SFits w32 z → lt_z z (pos 0) ≡ true → signed_decimal z ≡ ascii "-" ++ decimal (4294967296 - pattern_of z)
-unfolding pattern_of
-negative-digits (pos n) f q = absurd (not-suc-le-zero (ltb-true n 0 q))
-negative-digits (negsuc n) f q =
-    let h : n < 2 ^ 31 = f.sfits in
-    let e : suc n ≡ 4294967296 - ((2 ^ 32 - 1) - n % 2 ^ 32) = omega (arith, h) in
-    ap (λ (m : ℕ). ascii "-" ++ decimal m) e
+negative-digits : (z : ℤ) → lt_z z (pos 0) ≡ true → signed_decimal z ≡ ascii "-" ++ decimal (nat_abs z)
+negative-digits (pos n) q = absurd (not-suc-le-zero (ltb-true n 0 q))
+negative-digits (negsuc n) q = refl
 
-other-digits : (z : ℤ) → SFits w32 z → lt_z z (pos 0) ≡ false → signed_decimal z ≡ decimal (pattern_of z)
-unfolding pattern_of
-other-digits (pos n) f q =
-    let h : n < 2 ^ 31 = f.sfits in
-    let e : n ≡ n % 2 ^ 32 = omega (arith, h) in
-    ap decimal e
-other-digits (negsuc n) f q = absurd (true≢false q)
+other-digits : (z : ℤ) → lt_z z (pos 0) ≡ false → signed_decimal z ≡ decimal (nat_abs z)
+other-digits (pos n) q = refl
+other-digits (negsuc n) q = absurd (true≢false q)
 
--- by the sign and the pattern of a number that is read from its bits
-module _ {z : ℤ} (f : SFits w32 z) {low : ℕ} {negative : Bool} (e : low ≡ pattern_of (to_z w32 (of_z w32 z))) (t : negative ≡ lt_z (to_z w32 (of_z w32 z)) (pos 0)) where
-  pub digits-of-negative : negative ≡ true → signed_decimal z ≡ ascii "-" ++ decimal (4294967296 - low)
-  digits-of-negative q = rw (e, to_z-of_z w32 z f) (negative-digits z f (ap (λ (y : ℤ). lt_z y (pos 0)) (sym (to_z-of_z w32 z f)) ∙ sym t ∙ q))
+-- by the sign and the absolute value of a number that is read from its bits
+module _ {z : ℤ} (f : SFits w32 z) {size : ℕ} (e : size ≡ nat_abs (to_z w32 (of_z w32 z))) where
+  pub digits-of-negative : lt_z (to_z w32 (of_z w32 z)) (pos 0) ≡ true → signed_decimal z ≡ ascii "-" ++ decimal size
+  digits-of-negative q = rw (e, to_z-of_z w32 z f) (negative-digits z (rw (to_z-of_z w32 z f) at q))
 
-  pub digits-of-other : negative ≡ false → signed_decimal z ≡ decimal low
-  digits-of-other q = rw (e, to_z-of_z w32 z f) (other-digits z f (ap (λ (y : ℤ). lt_z y (pos 0)) (sym (to_z-of_z w32 z f)) ∙ sym t ∙ q))
+  pub digits-of-other : lt_z (to_z w32 (of_z w32 z)) (pos 0) ≡ false → signed_decimal z ≡ decimal size
+  digits-of-other q = rw (e, to_z-of_z w32 z f) (other-digits z (rw (to_z-of_z w32 z f) at q))

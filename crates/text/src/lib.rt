@@ -5,8 +5,6 @@ ghost use Rattle.std.specs.Prelude.{◌+◌, ◌≤◌, length};
 ghost use Rattle.text.specs.Pieces.{Put};
 ghost use Rattle.text.specs.Decimal.{decimal, signed_decimal};
 
-use words::{is_negative, pattern};
-
 // A piece put at `at`. The answer is where it ends.
 pub fn put(piece: &[u8], text: &mut [u8], at: usize) -> usize
     requires { at + length piece.now ≤ length text.old }
@@ -34,10 +32,9 @@ pub fn put_signed(number: i32, text: &mut [u8], at: usize) -> usize
     ensures put { Put at (signed_decimal number) text.old text.new result }
     ensures upper_bound { result ≤ at + 21 }
 {
-    let low = pattern(number) as u64;
-    if is_negative(number) {
-        let end = put(b"-", text, at);
-        return put_number(4294967296 - low, text, end);
+    let mut end = at;
+    if number < 0 {
+        end = put(b"-", text, at);
     }
-    put_number(low, text, at)
+    put_number(u64::from(number.unsigned_abs()), text, end)
 }

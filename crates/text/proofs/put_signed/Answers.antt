@@ -1,15 +1,18 @@
--- `text::put_signed` meets its contract: the digits of a negative number are those of 2^32 less its pattern. Assumes nothing.
-use Rattle.std.proofs.Common.{sym, arith}
+-- `text::put_signed` meets its contract: the digits are those of the absolute value. Assumes nothing.
+use Rattle.std.proofs.Common.{sym, ◌∙◌, arith}
 use Rattle.text.proofs.Pieces.{put_as, put_then}
 use Rattle.text.proofs.Digits.{digits-of-negative, digits-of-other}
 use Rattle.text.proofs.put_signed.Goals as goal
-
-pub returns-then-is_negative-clause-put : goal.returns-then-is_negative-clause-put
-returns-then-is_negative-clause-put c =
-    let e = digits-of-negative c.ranges.number c.pattern-low.ensures c.is_negative.ensures c.if-is_negative.true in
-    put_as (put_then c.put-end.ensures (omega arith) c.put_number.ensures.put) (sym e)
+use Rattle.text.proofs.put_signed.Goals.{then-number-lt0, else-number-lt0}
 
 pub returns-clause-put : goal.returns-clause-put
 returns-clause-put c =
-    let e = digits-of-other c.ranges.number c.pattern-low.ensures c.is_negative.ensures c.if-is_negative.false in
-    put_as c.put_number-2.ensures.put (sym e)
+    let size = c.from.ensures ∙ c.unsigned_abs.ensures.value in
+    elim c.if-number-lt0.branch [
+      | then-number-lt0 w ↦
+          let digits = rw (w.text-is, w.end-is) at c.put_number.ensures.put in
+          put_as (put_then w.put-end.ensures (omega arith) digits) (sym (digits-of-negative c.ranges.number size w.if-number-lt0.true))
+      | else-number-lt0 w ↦
+          let digits = rw (w.text-is, w.end-is) at c.put_number.ensures.put in
+          put_as digits (sym (digits-of-other c.ranges.number size w.if-number-lt0.false))
+    ]
