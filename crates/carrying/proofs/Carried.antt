@@ -6,7 +6,7 @@ use native.Mathlib.Numerals.{add-one}
 use native.Mathlib.Omega.{arith}
 use lib.IntN.{ℤ}
 use lib.ListN.{length, get_or}
-use Rattle.machine.specs.Settings.{Environment, value_in, Entry, after, carry}
+use Rattle.machine.specs.Settings.{Environment, Entry, after, carry}
 use Rattle.machine.proofs.Settings.{length-carry}
 use Rattle.model.specs.Tables.{list_in}
 use Rattle.values.specs.Values.{values_below, Known}
@@ -50,16 +50,16 @@ module _ (writes : ℕ → List Entry) (order : List ℕ) (values₀ : List ℤ)
   unfolding carried_first
   carried-next k e p q = rw (q, e, p, add-one)
 
--- carried into both lists, known values are known as of the next position
+-- carried into both lists of known values
 module _ (order writes targets : List ℕ) (written : List ℤ) {before after₀ : List ℤ} where
-  known-first : (kept : List ℤ) (known : List ℕ) (k : ℕ) → Known (value_in kept) known before after₀ → let w = list_in writes targets written in Known (values_below order writes targets written kept k) known (carried_first w order before k) (carried_first w order after₀ k)
-  unfolding carried_first
-  known-first kept known zero h = subst (λ (env : Environment). Known env known before after₀) (sym (values-first order writes targets written kept)) h
-  known-first kept known (suc k) h = known_next order writes targets written kept k (known-first kept known k h) (record { before-is = refl; after_is = refl })
+  pub below_none : CarriedBelow 0 order writes targets written before after₀ before after₀
+  below_none =
+      record { right = λ kept known h. subst (λ (env : Environment). Known env known before after₀) (sym (values-first order writes targets written kept)) h }
 
-  pub carried-below :
-      (k : ℕ) {before' after' : List ℤ} →
-      before' ≡ carried_first (list_in writes targets written) order before k →
-      after' ≡ carried_first (list_in writes targets written) order after₀ k →
-      CarriedBelow k order writes targets written before after₀ before' after'
-  carried-below k e q = record { right = λ kept known h. rw (e, q) (known-first kept known k h) }
+  pub below-more :
+      (j : ℕ) {place : ℕ} {before₁ after₁ before₂ after₂ : List ℤ} →
+      CarriedBelow j order writes targets written before after₀ before₁ after₁ →
+      place ≡ get_or order j 0 →
+      Carried (list_in writes targets written place) before₁ after₁ before₂ after₂ →
+      CarriedBelow (j + 1) order writes targets written before after₀ before₂ after₂
+  below-more j b p c = record { right = λ kept known h. rw (add-one j) (known_next order writes targets written kept j (b.right kept known h) (rw p at c)) }

@@ -61,7 +61,7 @@ pub fn carry_first(
     }
 }
 
-// The writes of the changes below a position carried into both lists of values.
+// The writes of the changes below a position carried into both lists of values, one change after the other.
 pub fn carry_below(
     k: usize,
     order: &[u16],
@@ -75,6 +75,7 @@ pub fn carry_below(
     ensures { CarriedBelow k order.now writes.now targets.now written.now
         before.old after.old before.new after.new }
 {
-    carry_first(k, order, writes, targets, written, before);
-    carry_first(k, order, writes, targets, written, after);
+    for place in &order[..k] {
+        carry_place(*place as usize, writes, targets, written, before, after);
+    }
 }
