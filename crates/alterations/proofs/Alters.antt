@@ -1,51 +1,23 @@
 -- The settings that change where writes are replaced, from what the code looks up, carries and collects.
-use mathlib.Core.Path.{◌≡◌, sym, ap, subst, ◌∙◌}
+use mathlib.Core.Path.{◌≡◌, sym, subst, ◌∙◌}
 use mathlib.Core.List.{List, []}
-use Prim.Native.Nat.{ℕ, ◌+◌, ◌-◌, ◌*◌, ◌≤◌}
+use Prim.Native.Nat.{ℕ, ◌-◌}
 use native.Mathlib.Omega.{arith}
 use lib.IntN.{ℤ}
-use lib.ListN.{length, get_or, take, drop}
-use lib.Seq.{take_all, length-take-le}
+use lib.ListN.{length, take, drop}
+use lib.Seq.{take_all}
 use Rattle.machine.specs.Settings.{Environment, Entry, carry, entries}
-use Rattle.general.proofs.Parts.{part}
 use Rattle.model.specs.History.{Lists}
 use Rattle.model.specs.Tables.{settings_of}
 use Rattle.model.proofs.Entries.{settings-entries}
-use Rattle.writers.specs.Writers.{OfSettings, WriteLists}
 use Rattle.values.specs.Values.{AllKnown, Looked}
 use Rattle.differences.specs.Differences.{Collected}
 use Rattle.differences.proofs.Replaced.{Replacing, all-kept, replacing, collected-settings, collected-differs, collected-new}
-use Rattle.values.proofs.Parts.{part_length, part-settings, same-part, first_part, first-same}
-use Rattle.alterations.specs.Altered.{BothWrites, Alterable, Altered}
-
--- ---- both writes, as they are lent
+use Rattle.alterations.specs.Altered.{BothWrites, Altered}
 
 -- the first entries of a list, as they are lent
 abbrev pub firsts : {A : Type 0} → ℕ → List A → List A
 firsts size l = take (size - 0) (drop 0 l)
-
-module _ {k : ℕ} {order writes targets : List ℕ} {written : List ℤ} {size : ℕ} {new_targets : List ℕ} {new_written : List ℤ} (a : Alterable k order writes targets size new_targets new_written) (w : WriteLists writes targets written) where
-  abbrev place : ℕ
-  place = get_or order k 0
-
-  pub target_room : 32 * place + get_or writes place 0 ≤ length targets
-  target_room = omega (arith, a.at.place, w.short place, w.target-slots)
-
-  pub value_room : 32 * place + get_or writes place 0 ≤ length written
-  value_room = omega (arith, a.at.place, w.short place, w.value-slots)
-
-  pub both-writes : BothWrites (part 32 place (get_or writes place 0) targets) (part 32 place (get_or writes place 0) written) (firsts size new_targets) (firsts size new_written)
-  both-writes =
-      record {
-        old-same = same-part writes targets written place target_room value_room;
-        new-same = first-same size new_targets new_written (omega (arith, a.short, a.target-slots)) (omega (arith, a.short, a.value-slots));
-        old-short = omega (arith, part_length 32 place (get_or writes place 0) targets target_room, w.short place);
-        new-short = omega (arith, ap length (first_part size new_targets) ∙ length-take-le size new_targets (omega (arith, a.short, a.target-slots)), a.short);
-        old-settings = part-settings place (get_or writes place 0) targets a.settings;
-        new-settings = subst OfSettings (sym (first_part size new_targets)) a.new-settings;
-      }
-
--- ---- what changes
 
 -- lists with some writes
 abbrev pub writing : List Entry → Lists

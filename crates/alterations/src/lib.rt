@@ -7,9 +7,9 @@ ghost use Rattle.model.specs.Tables.{list_in};
 ghost use Rattle.values.specs.Values.{values_below, Lookable};
 ghost use Rattle.alterations.specs.Altered.{BothWrites, Alterable, Altered};
 
-use carrying::carry_list;
 use differences::collect_changed;
 use values::know_list;
+use write_lists::carry;
 
 // The old writes carried into the values before, the new ones into those after: the settings of both at which they differ. Answers how many.
 fn alter_writes(
@@ -60,8 +60,8 @@ fn alter_writes(
         after,
         known,
     );
-    carry_list(old_targets, old_written, before);
-    carry_list(new_targets, new_written, after);
+    carry(old_targets, old_written, before);
+    carry(new_targets, new_written, after);
     let count = collect_changed(old_targets, before, after, changed, 0);
     collect_changed(new_targets, before, after, changed, count)
 }

@@ -1,5 +1,5 @@
--- Writes carried into two lists of values.
-use Rattle.std.specs.Prelude.{◌≡◌, List, ℕ, ◌<◌, ℤ, length, get_or}
+-- Writes carried into one list of values, and into two.
+use Rattle.std.specs.Prelude.{◌≡◌, List, ℕ, zero, suc, ◌<◌, ℤ, length, get_or}
 use Rattle.machine.specs.Settings.{value_in, Entry, carry}
 use Rattle.model.specs.Tables.{slots}
 use Rattle.writers.specs.Writers.{WriteLists, OfSettings}
@@ -17,6 +17,11 @@ pub record Carriable (position : ℕ) (order writes targets : List ℕ) (written
   pub listed : WriteLists writes targets written
   pub settings : (j : ℕ) → j < position → OfSettings (slots 32 (get_or order j 0) (get_or writes (get_or order j 0) 0) targets)
 
--- their writes are carried into both lists: of kept values, those as of the position
+-- the writes of the first changes of the order list, one change after the other, carried into some values
+unfoldable pub carried_first : (ℕ → List Entry) → List ℕ → List ℤ → ℕ → List ℤ
+carried_first writes order values zero = values
+carried_first writes order values (suc k) = carry (writes (get_or order k 0)) (carried_first writes order values k)
+
+-- the writes of the changes below a position are carried into both lists: of kept values, those as of the position
 pub record CarriedBelow (position : ℕ) (order writes targets : List ℕ) (written before after before' after' : List ℤ) : Type 0 where
   pub right : (kept : List ℤ) (known : List ℕ) → Known (value_in kept) known before after → Known (values_below order writes targets written kept position) known before' after'
