@@ -10,7 +10,7 @@ use model::{Answer, Turned};
 use single_turn::turn_once;
 use tables::form::fault;
 use tables::held_count;
-use zeros::clear_u16;
+use zeros::clear;
 
 // One turn: the answer and the tables after one round of the Checker (Figure 1), with document 01's additions.
 pub fn turn(
@@ -98,7 +98,7 @@ pub fn drain(
     if refusal != 0 {
         return Answer::Refused(refusal);
     }
-    clear_u16(totals);
+    clear(totals);
     let count = held_count(held);
     turn_all(
         count, timestamps, order, status, withdrawn, lengths, programs, reads, writes, sources,
