@@ -7,7 +7,7 @@ use native.Mathlib.Numerals.{add-one}
 use native.Mathlib.Omega.{arith}
 use borrow.Rule.Slice.PartMut.{mid_of, post_of, put_mid}
 use lib.ListN.{drop_of_length-le, length, get_or, set, take, drop, replicate, length-append, length-drop, length-map, length-set}
-use lib.Seq.{paste, paste-zero, paste-suc, drop-paste, take-paste, take_at, drop_at, take-suc, get_or-take, get_or-drop, drop-drop, length-take-le}
+use lib.Seq.{paste, paste-suc, drop-paste, take-paste, take_at, drop_at, take-suc, get_or-take, get_or-drop, drop-drop, length-take-le}
 use Rattle.std.specs.List.{copy_within}
 use Rattle.std.proofs.lemmas.List.{take-map, get_or-map}
 use Rattle.compaction.specs.Closed.{moved, gathered, closed, Closable, renumbered_by, Renumberable}
@@ -25,9 +25,6 @@ pub record Copied {A : Type 0} (before : List A) (to : ℕ) (s : List A) (k : �
   pub so_far : l ≡ paste before to s k
 
 module _ {A : Type 0} {before : List A} {to : ℕ} {s : List A} where
-  pub copy-none : Copied before to s 0 before
-  copy-none = record { same = refl; so_far = paste-zero before to s }
-
   -- one store more
   copy-next : {k : ℕ} {l l' : List A} {v : A} (z : A) → Copied before to s k l → to + k < length before → k < length s → l' ≡ set l (to + k) v → v ≡ get_or s k z → Copied before to s (k + 1) l'
   copy-next {k} {l} z p h g e q =
@@ -83,10 +80,7 @@ module _ {A : Type 0} {width count : ℕ} {places : List ℕ} {before : List A} 
       let few : length (take j places) ≡ j = length-take-le j places (omega (arith, c.long)) in
       gathered-length width before (take j places) (λ k q. rw (get_or-take j places k 0 (omega arith)) (c.within k (omega arith))) ∙ ap (width *◌) few
 
-  pub close-none : ClosedUp width places 0 before before
-  close-none = let none : width * 0 ≡ 0 = omega arith in record { same = refl; so_far = rw none }
-
-  -- what the move of its block relies on
+  -- what the copy of its block relies on
   pub close-room : (j : ℕ) → j < count → (width * j ≤ width * get_or places j 0) × (width * get_or places j 0 + width ≤ length before)
   close-room j h = (mul-le-mul_left width (c.behind j h), c.within j h)
 
