@@ -11,7 +11,7 @@ use model::{Refusal, Turn};
 use single_turn::turn_once;
 use tables::form::fault;
 use tables::held_count;
-use zeros::clear_u16;
+use zeros::clear;
 
 // One turn: the answer and the tables after one round of the Checker (Figure 1), with document 01's additions.
 pub fn turn(
@@ -94,7 +94,7 @@ pub fn drain(
         n, held, timestamps, order, status, withdrawn, lengths, programs, reads, writes, sources,
         seen, targets, written, view, versions, cutoff, kept,
     )?;
-    clear_u16(totals);
+    clear(totals);
     let count = held_count(held);
     turn_all(
         count, timestamps, order, status, withdrawn, lengths, programs, reads, writes, sources,

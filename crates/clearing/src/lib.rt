@@ -3,7 +3,7 @@
 
 ghost use Rattle.clearing.specs.Cleared.{ChangesCleared, ListsCleared};
 
-use zeros::{clear_i32, clear_u8, clear_u16, clear_u64};
+use zeros::clear;
 
 // The tables of the changes themselves, and the cutoff.
 pub fn clear_changes(
@@ -21,15 +21,15 @@ pub fn clear_changes(
         held.old timestamps.old order.old status.old withdrawn.old lengths.old programs.old versions.old cutoff.old
         held.new timestamps.new order.new status.new withdrawn.new lengths.new programs.new versions.new cutoff.new }
 {
-    clear_u16(held);
-    clear_u64(timestamps);
-    clear_u16(order);
-    clear_u16(status);
-    clear_u16(withdrawn);
-    clear_u16(lengths);
-    clear_u8(programs);
-    clear_u16(versions);
-    clear_u64(cutoff);
+    clear(held);
+    clear(timestamps);
+    clear(order);
+    clear(status);
+    clear(withdrawn);
+    clear(lengths);
+    clear(programs);
+    clear(versions);
+    clear(cutoff);
 }
 
 // The tables of the read and write lists.
@@ -45,10 +45,10 @@ pub fn clear_lists(
         reads.old writes.old sources.old seen.old targets.old written.old
         reads.new writes.new sources.new seen.new targets.new written.new }
 {
-    clear_u16(reads);
-    clear_u16(writes);
-    clear_u16(sources);
-    clear_i32(seen);
-    clear_u16(targets);
-    clear_i32(written);
+    clear(reads);
+    clear(writes);
+    clear(sources);
+    clear(seen);
+    clear(targets);
+    clear(written);
 }

@@ -4,7 +4,7 @@
 ghost use Rattle.std.specs.Prelude.{take};
 ghost use Rattle.closing.specs.Closing.{ColumnsClosable, ColumnsClosed, BlocksClosable, BlocksClosed};
 
-use compaction::{close_i32, close_u8, close_u16, close_u64};
+use compaction::close;
 
 // The tables with one slot for each place, closed up to the places that remain.
 pub fn close_columns(
@@ -24,13 +24,13 @@ pub fn close_columns(
         status.new withdrawn.new lengths.new reads.new writes.new
         versions.new }
 {
-    close_u64(1, found, places, timestamps);
-    close_u16(1, found, places, status);
-    close_u16(1, found, places, withdrawn);
-    close_u16(1, found, places, lengths);
-    close_u16(1, found, places, reads);
-    close_u16(1, found, places, writes);
-    close_u16(1, found, places, versions);
+    close(1, found, places, timestamps);
+    close(1, found, places, status);
+    close(1, found, places, withdrawn);
+    close(1, found, places, lengths);
+    close(1, found, places, reads);
+    close(1, found, places, writes);
+    close(1, found, places, versions);
 }
 
 // The tables with a block for each place, closed up to the places that remain.
@@ -48,9 +48,9 @@ pub fn close_blocks(
         targets.old written.old programs.new sources.new seen.new
         targets.new written.new }
 {
-    close_u8(256, found, places, programs);
-    close_u16(32, found, places, sources);
-    close_i32(32, found, places, seen);
-    close_u16(32, found, places, targets);
-    close_i32(32, found, places, written);
+    close(256, found, places, programs);
+    close(32, found, places, sources);
+    close(32, found, places, seen);
+    close(32, found, places, targets);
+    close(32, found, places, written);
 }

@@ -7,7 +7,9 @@ use native.Mathlib.Numerals.{add-one}
 use native.Mathlib.Omega.{arith}
 use borrow.Rule.Slice.PartMut.{mid_of, post_of, put_mid}
 use lib.ListN.{drop_of_length-le, length, get_or, set, take, drop, replicate, length-append, length-drop, length-map, length-set}
-use lib.Seq.{paste, paste-zero, paste-suc, drop-paste, take-paste, take_at, drop_at, take-suc, get_or-take, get_or-drop, drop-drop, length-take-le}
+use lib.Seq.{paste, paste-suc, drop-paste, take-paste, take_at, drop_at, take-suc, get_or-take, get_or-drop, drop-drop, length-take-le}
+use Rattle.std.specs.List.{copy_within}
+use Rattle.std.proofs.lemmas.List.{take-map, get_or-map}
 use Rattle.compaction.specs.Closed.{moved, gathered, closed, Closable, renumbered_by, Renumberable}
 
 -- behind what is copied a list is as it was
@@ -23,9 +25,6 @@ pub record Copied {A : Type 0} (before : List A) (to : ℕ) (s : List A) (k : �
   pub so_far : l ≡ paste before to s k
 
 module _ {A : Type 0} {before : List A} {to : ℕ} {s : List A} where
-  pub copy-none : Copied before to s 0 before
-  copy-none = record { same = refl; so_far = paste-zero before to s }
-
   -- one store more
   copy-next : {k : ℕ} {l l' : List A} {v : A} (z : A) → Copied before to s k l → to + k < length before → k < length s → l' ≡ set l (to + k) v → v ≡ get_or s k z → Copied before to s (k + 1) l'
   copy-next {k} {l} z p h g e q =
@@ -33,9 +32,6 @@ module _ {A : Type 0} {before : List A} {to : ℕ} {s : List A} where
         same = ap length e ∙ length-set l (to + k) _ ∙ p.same;
         so_far = e ∙ rw (p.so_far, q, add-one) (paste-suc before to s k z h g);
       }
-
-  pub copy-last : {k size : ℕ} {l : List A} → k ≡ size → Copied before to s k l → l ≡ paste before to s size
-  copy-last e p = p.so_far ∙ ap (paste before to s) e
 
   -- what is read behind it
   copy_read : {k : ℕ} {l : List A} (z : A) → Copied before to s k l → to + k ≤ length before → k ≤ length s → (i : ℕ) → to + k ≤ i → get_or l i z ≡ get_or before i z
@@ -50,12 +46,8 @@ rest-cleared end l {rest} z e =
 
 -- ---- a block copied down
 
-module _ {A : Type 0} (z : A) (from to size : ℕ) {before : List A} (down : to ≤ from) (room : from + size ≤ length before) where
-  pub move-next : {k : ℕ} {l l' : List A} {v : A} → Copied before to (drop from before) k l → k < size → l' ≡ set l (to + k) v → v ≡ get_or l (from + k) z → Copied before to (drop from before) (k + 1) l'
-  move-next {k} p h e q =
-      let long : k < length (drop from before) = rw length-drop (omega arith) in
-      copy-next z p (omega arith) long e
-      (q ∙ copy_read z p (omega arith) (omega arith) (from + k) (omega arith) ∙ sym (get_or-drop from before k z))
+copied-down : {A : Type 0} (from to size : ℕ) (l : List A) → copy_within l from (from + size) to ≡ moved from to size l
+copied-down from to size l = let e : from + size - from ≡ size = omega arith in rw e
 
 -- ---- tables closed up
 
@@ -88,10 +80,7 @@ module _ {A : Type 0} {width count : ℕ} {places : List ℕ} {before : List A} 
       let few : length (take j places) ≡ j = length-take-le j places (omega (arith, c.long)) in
       gathered-length width before (take j places) (λ k q. rw (get_or-take j places k 0 (omega arith)) (c.within k (omega arith))) ∙ ap (width *◌) few
 
-  pub close-none : ClosedUp width places 0 before before
-  close-none = let none : width * 0 ≡ 0 = omega arith in record { same = refl; so_far = rw none }
-
-  -- what the move of its block relies on
+  -- what the copy of its block relies on
   pub close-room : (j : ℕ) → j < count → (width * j ≤ width * get_or places j 0) × (width * get_or places j 0 + width ≤ length before)
   close-room j h = (mul-le-mul_left width (c.behind j h), c.within j h)
 
@@ -106,8 +95,8 @@ module _ {A : Type 0} {width count : ℕ} {places : List ℕ} {before : List A} 
           let one : width * suc k ≡ width * k + width = omega arith in
           omega arith
 
-  -- one place more, whose block is moved down
-  pub close-next : {j : ℕ} {l l' : List A} → j < count → ClosedUp width places j before l → length l' ≡ length l → l' ≡ moved (width * get_or places j 0) (width * j) width l → ClosedUp width places (j + 1) before l'
+  -- one place more, whose block is copied down
+  pub close-next : {j : ℕ} {l l' : List A} → j < count → ClosedUp width places j before l → length l' ≡ length l → l' ≡ copy_within l (width * get_or places j 0) (width * get_or places j 0 + width) (width * j) → ClosedUp width places (j + 1) before l'
   close-next {j} {l} h p same e =
       let i = get_or places j 0 in
       let front = gathered width before (take j places) in
@@ -122,7 +111,7 @@ module _ {A : Type 0} {width count : ℕ} {places : List ℕ} {before : List A} 
       ∙ gathered-append width before (take j places) (i ∷ [])
       ∙ ap (front ++◌) (append-nil (take width (drop (width * i) before))) in
       let next : width * (j + 1) ≡ width * j + width = omega arith in
-      record { same = same ∙ p.same; so_far = e ∙ rw (first, block, rest, more, next) }
+      record { same = same ∙ p.same; so_far = e ∙ copied-down (width * i) (width * j) width l ∙ rw (first, block, rest, more, next) }
 
   -- and zeros behind the last
   pub close-last : {l rest : List A} (z : A) → ClosedUp width places count before l → rest ≡ replicate (length (mid_of (width * count) (length l - width * count) l)) z → put_mid (width * count) (length l - width * count) l rest ≡ closed width z (take count places) before
@@ -134,11 +123,6 @@ module _ {A : Type 0} {width count : ℕ} {places : List ℕ} {before : List A} 
       rest-cleared (width * count) l z e ∙ rw (first, p.same, few)
 
 -- ---- the order list
-
-map-take : {A B : Type 0} (f : A → B) (n : ℕ) (l : List A) → map f (take n l) ≡ take n (map f l)
-map-take f zero l = refl
-map-take f (suc n) [] = refl
-map-take f (suc n) (x ∷ l) = ap (f x ∷◌) (map-take f n l)
 
 module _ (numbers : List ℕ) {first count : ℕ} {before : List ℕ} (r : Renumberable first count before) where
   -- all entries from the first on, by their new numbers
@@ -159,12 +143,7 @@ module _ (numbers : List ℕ) {first count : ℕ} {before : List ℕ} (r : Renum
       let more : j < length (drop first before) = rw length-drop (omega arith) in
       let none : 0 + j ≡ j = omega arith in
       copy-next 0 p (omega arith) (omega (arith, renumbering-length)) (ap (λ (i : ℕ). set l i (get_or numbers (get_or l (first + j) 0) 0)) (sym none))
-      (ap (λ (i : ℕ). get_or numbers i 0) (renumber-read p h ∙ sym (get_or-drop first before j 0)) ∙ sym (get_or-mapped (drop first before) j more))
-    where
-      get_or-mapped : (l : List ℕ) (k : ℕ) → k < length l → get_or (map (λ i. get_or numbers i 0) l) k 0 ≡ get_or numbers (get_or l k 0) 0
-      get_or-mapped [] k q = absurd (omega arith)
-      get_or-mapped (i ∷ l) zero q = refl
-      get_or-mapped (i ∷ l) (suc k) q = get_or-mapped l k (omega arith)
+      (ap (λ (i : ℕ). get_or numbers i 0) (renumber-read p h ∙ sym (get_or-drop first before j 0)) ∙ sym (get_or-map (λ (i : ℕ). get_or numbers i 0) (drop first before) j 0 0 more))
 
   -- and zeros behind the last
   pub renumber-last : {l rest : List ℕ} → Copied before 0 renumbering (count - first) l → rest ≡ replicate (length (mid_of (count - first) (length l - (count - first)) l)) 0 → put_mid (count - first) (length l - (count - first)) l rest ≡ renumbered_by numbers first count before
@@ -173,4 +152,4 @@ module _ (numbers : List ℕ) {first count : ℕ} {before : List ℕ} (r : Renum
       let left = count - first in
       let none : 0 + left ≡ left = omega arith in
       let front : take left l ≡ take left renumbering = ap (λ (n : ℕ). take n l) (sym none) ∙ ap (take (0 + left)) p.so_far ∙ take-paste before 0 renumbering left (omega arith) (omega (arith, renumbering-length, r.long)) in
-      rest-cleared left l 0 e ∙ rw (front, p.same, map-take)
+      rest-cleared left l 0 e ∙ rw (front, p.same, take-map)

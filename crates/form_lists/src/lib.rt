@@ -6,7 +6,7 @@ ghost use Rattle.general.specs.Lists.{all_below};
 ghost use Rattle.model.specs.Form.{distinct_settings, list_fits};
 ghost use Rattle.form_lists.specs.Marks.{ListSlots, MarkedBelow, is_new};
 
-use zeros::{all_zero_i32, all_zero_u16};
+use zeros::all_zero;
 
 // Whether a setting is below 1,024 and not marked with the row's number. If so, it is marked.
 fn mark(setting: u16, marks: &mut [u16; 1024], row: u16) -> bool
@@ -65,7 +65,7 @@ fn list_fits(
     let used = start + count;
     let end = start + 32;
     distinct_settings(&settings[start..used], marks, i as u16 + 1)
-        & (all_zero_u16(&settings[used..end]) & all_zero_i32(&values[used..end]))
+        & (all_zero(&settings[used..end]) & all_zero(&values[used..end]))
 }
 
 // Whether the lists of the first count places have at most 32 entries, of distinct settings, with zeros behind them.
@@ -74,12 +74,10 @@ pub fn lists_fit(count: usize, counts: &[u16], settings: &[u16], values: &[i32])
     ensures { result ≡ all_below count (list_fits counts.now settings.now values.now) }
 {
     let mut marks = [0u16; 1024];
-    let mut i = 0;
-    while i < count {
+    for i in 0..count {
         if !list_fits(i, counts, settings, values, &mut marks) {
             return false;
         }
-        i += 1;
     }
     true
 }

@@ -7,7 +7,7 @@ ghost use Rattle.model.specs.Form.{head_fits, program_fits, order_fits, from_cut
 
 use bytecode::form::well_formed;
 use timestamps::is_timestamp;
-use zeros::all_zero_u8;
+use zeros::all_zero;
 
 // Whether a place's timestamp, status, flag, counts and version are right: a New change's lists are empty.
 fn head_fits(
@@ -45,18 +45,15 @@ pub fn heads_fit(
         versions.now) }
 {
     let mut fits = true;
-    let mut i = 0;
-    while i < count {
-        fits = fits
-            & head_fits(
-                timestamps[i],
-                status[i],
-                withdrawn[i],
-                reads[i],
-                writes[i],
-                versions[i],
-            );
-        i += 1;
+    for i in 0..count {
+        fits &= head_fits(
+            timestamps[i],
+            status[i],
+            withdrawn[i],
+            reads[i],
+            writes[i],
+            versions[i],
+        );
     }
     fits
 }
@@ -65,11 +62,7 @@ pub fn heads_fit(
 fn timestamp_at(timestamps: &[u64], place: usize) -> u64
     ensures { result ≡ get_or timestamps.now place 0 }
 {
-    if place < timestamps.len() {
-        timestamps[place]
-    } else {
-        0
-    }
+    timestamps.get(place).copied().unwrap_or(0)
 }
 
 // Whether the first count entries of the order list are places below count, by rising timestamp.
@@ -79,13 +72,11 @@ pub fn order_fits(count: usize, order: &[u16], timestamps: &[u64]) -> bool
 {
     let mut fits = true;
     let mut last: u64 = 0;
-    let mut k = 0;
-    while k < count {
-        let place = order[k] as usize;
+    for (k, place) in order[..count].iter().enumerate() {
+        let place = *place as usize;
         let timestamp = timestamp_at(timestamps, place);
-        fits = fits & ((place < count) & ((k == 0) | (last < timestamp)));
+        fits &= (place < count) & ((k == 0) | (last < timestamp));
         last = timestamp;
-        k += 1;
     }
     fits
 }
@@ -96,10 +87,8 @@ pub fn none_below(count: usize, cutoff: u64, timestamps: &[u64]) -> bool
     ensures { result ≡ all_below count (from_cutoff cutoff timestamps.now) }
 {
     let mut fits = true;
-    let mut i = 0;
-    while i < count {
-        fits = fits & (cutoff <= timestamps[i]);
-        i += 1;
+    for timestamp in &timestamps[..count] {
+        fits &= cutoff <= *timestamp;
     }
     fits
 }
@@ -116,7 +105,7 @@ fn program_fits(i: usize, lengths: &[u16], programs: &[u8]) -> bool
     let start = 256 * i;
     let used = start + 8 * length;
     let end = start + 256;
-    well_formed(&programs[start..used]) & all_zero_u8(&programs[used..end])
+    well_formed(&programs[start..used]) & all_zero(&programs[used..end])
 }
 
 // Whether the first count programs are well formed, with zeros behind them.
@@ -124,12 +113,10 @@ pub fn programs_fit(count: usize, lengths: &[u16], programs: &[u8]) -> bool
     requires { (count ≤ 4096) × (count ≤ length lengths.now) × (256 * count ≤ length programs.now) }
     ensures { result ≡ all_below count (program_fits lengths.now programs.now) }
 {
-    let mut i = 0;
-    while i < count {
+    for i in 0..count {
         if !program_fits(i, lengths, programs) {
             return false;
         }
-        i += 1;
     }
     true
 }

@@ -1,40 +1,22 @@
 // Lists stored at a place: only the slots up to the longer of the old and the new list, since those behind hold 0.
 #![tactic(auto)]
 
-ghost use Rattle.std.specs.Prelude.{◌≡◌, pos, take};
-ghost use Rattle.storing.specs.Stored.{replaced, replaced_z, Storable, ListStorable, ListPut, new_lists, ListsStorable, ListsPut};
+ghost use Rattle.std.specs.Prelude.{◌≡◌, take};
+ghost use Rattle.storing.specs.Stored.{replaced_by, Storable, ListStorable, ListPut, new_lists, ListsStorable, ListsPut};
 
-// The 32 slots of a place that had the first `old` in use: the first count settings of a list, then zeros.
-pub fn put_settings(place: usize, old: usize, list: &[u16], count: usize, settings: &mut [u16])
-    requires { Storable 0 place old list.now count settings.old }
-    ensures { settings.new ≡ replaced place (take count list.now) settings.old }
+use zeros::Slot;
+
+// The 32 slots of a place that had the first `old` in use: the first count entries of a list, then zeros.
+pub fn put_slots<T: Slot>(place: usize, old: usize, list: &[T], count: usize, slots: &mut [T])
+    requires { Storable T.ZERO place old list.now count slots.old }
+    ensures { slots.new ≡ replaced_by T.ZERO place (take count list.now) slots.old }
 {
     let begin = 32 * place;
-    let mut j = 0;
-    while j < count {
-        settings[begin + j] = list[j];
-        j += 1;
+    for j in 0..count {
+        slots[begin + j] = list[j];
     }
-    while j < old {
-        settings[begin + j] = 0;
-        j += 1;
-    }
-}
-
-// The same of a list of values.
-pub fn put_values(place: usize, old: usize, list: &[i32], count: usize, values: &mut [i32])
-    requires { Storable (pos 0) place old list.now count values.old }
-    ensures { values.new ≡ replaced_z place (take count list.now) values.old }
-{
-    let begin = 32 * place;
-    let mut j = 0;
-    while j < count {
-        values[begin + j] = list[j];
-        j += 1;
-    }
-    while j < old {
-        values[begin + j] = 0;
-        j += 1;
+    for j in count..old {
+        slots[begin + j] = T::ZERO;
     }
 }
 
@@ -54,8 +36,8 @@ fn put_list(
         counts.new settings.new values.new }
 {
     let old = counts[place] as usize;
-    put_settings(place, old, new_settings, count, settings);
-    put_values(place, old, new_values, count, values);
+    put_slots(place, old, new_settings, count, settings);
+    put_slots(place, old, new_values, count, values);
     counts[place] = count as u16;
 }
 

@@ -9,7 +9,7 @@ use crate::held_count;
 use form_lists::lists_fit;
 use form_places::{heads_fit, none_below, order_fits, programs_fit};
 use model::Refusal;
-use zeros::{rest_zero_i32, rest_zero_u8, rest_zero_u16, rest_zero_u64};
+use zeros::rest_zero;
 
 // Whether the tables have the lengths of capacity n, from 1 to 4,096: not refusal 1.
 pub fn lengths_fit(
@@ -88,19 +88,19 @@ fn unused_fits(
 {
     let bytes = 256 * count;
     let slots = 32 * count;
-    rest_zero_u64(timestamps, count)
-        & rest_zero_u16(order, count)
-        & rest_zero_u16(status, count)
-        & rest_zero_u16(withdrawn, count)
-        & rest_zero_u16(lengths, count)
-        & rest_zero_u8(programs, bytes)
-        & rest_zero_u16(reads, count)
-        & rest_zero_u16(writes, count)
-        & rest_zero_u16(sources, slots)
-        & rest_zero_i32(seen, slots)
-        & rest_zero_u16(targets, slots)
-        & rest_zero_i32(written, slots)
-        & rest_zero_u16(versions, count)
+    rest_zero(timestamps, count)
+        & rest_zero(order, count)
+        & rest_zero(status, count)
+        & rest_zero(withdrawn, count)
+        & rest_zero(lengths, count)
+        & rest_zero(programs, bytes)
+        & rest_zero(reads, count)
+        & rest_zero(writes, count)
+        & rest_zero(sources, slots)
+        & rest_zero(seen, slots)
+        & rest_zero(targets, slots)
+        & rest_zero(written, slots)
+        & rest_zero(versions, count)
 }
 
 // Refusal 1 or 2, where one applies.

@@ -23,7 +23,7 @@ pub turn_all-requires : goal.turn_all-requires
 turn_all-requires c =
     let T = tables c.args.held.now c.args.timestamps.now c.args.order.now c.args.status.now c.args.withdrawn.now c.args.lengths.now c.args.programs.now c.args.reads.now c.args.writes.now c.args.sources.now c.args.seen.now c.args.targets.now c.args.written.now c.args.view.now c.args.versions.now c.args.cutoff.now c.args.kept.now in (
       record { others = T; so = formed _ T (faultless _ _ c.in_ok-fault.ensures refl) c.held_count-count.ensures },
-      c.clear_u16.ensures ∙ ap (λ (n : ℕ). replicate n 0) c.if-totals-ne1024.false,
+      c.clear.ensures ∙ ap (λ (n : ℕ). replicate n 0) c.if-totals-ne1024.false,
     )
 
 pub returns : goal.returns
