@@ -1,6 +1,5 @@
 -- `turn_answers::run_answer` meets its contract: by the state of the run. Assumes nothing.
 use mathlib.Core.Path.{sym, ◌∙◌}
-use borrow.Author.Tests.{ltb-true, ltb-false}
 use Rattle.run_record.proofs.Endings.{ending-whole, ending-faulted}
 use Rattle.turn_answers.proofs.run_answer.Statement.{statement}
 use Rattle.turn_answers.proofs.run_answer.Tie as tie
@@ -8,12 +7,12 @@ use Rattle.turn_answers.proofs.run_answer.Tie as tie
 returns : tie.Need-returns-then-is_whole
 returns c =
     let start : tie.Start = search in
-    rw (ending-whole start.args.run (ltb-true _ _ (sym c.before.is_whole.ensures ∙ c.if-is_whole.true)))
+    rw (ending-whole start.args.run (sym c.before.is_whole.ensures ∙ c.if-is_whole.true))
 
 returns-2 : tie.Need-returns
 returns-2 c =
     let start : tie.Start = search in
-    let (fault, broken) = ending-faulted start.args.run (ltb-false _ _ (sym c.before.is_whole.ensures ∙ c.if-is_whole.false)) in
+    let (fault, broken) = ending-faulted start.args.run (sym c.before.is_whole.ensures ∙ c.if-is_whole.false) in
     rw broken
 
 pub run_answer_spec : {M : Type 1} → statement M
