@@ -1,4 +1,3 @@
-pub mod Values
 pub mod Known
 pub mod Seen
 pub mod Parts
