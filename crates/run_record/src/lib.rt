@@ -2,12 +2,51 @@
 // the caller, as many entries of them as the record counts.
 #![tactic(auto)]
 
-ghost use Rattle.std.specs.Prelude.{◌≡◌, ◌+◌, ◌<◌, ◌≤◌, ltb, set};
-ghost use Rattle.run_record.specs.Record.{pick, begun, assigned, advanced, ended, entered_read, entered_write};
+ghost use Rattle.std.specs.Prelude.{◌≡◌, ◌+◌, ◌<◌, ◌≤◌, set};
+ghost use Rattle.run_record.specs.Record.{pick, begun, assigned, advanced, ended, entered_read, entered_write, is_whole, no_lists, with_read, with_write};
+
+// Why a run breaks off: a register names no setting; and in version 0, it reads a setting that it has written, it writes one twice.
+#[derive(Clone, Copy, PartialEq, Eq, Drop)]
+pub enum Fault {
+    NoSetting,
+    ReadsWritten,
+    WritesTwice,
+}
+
+// How a run stands between two instructions.
+#[derive(Clone, Copy, PartialEq, Eq, Drop)]
+pub enum Status {
+    Going,
+    Stopped,
+    Faulted(Fault),
+}
+
+// The lists of a run, as many entries of each as its record counts: the settings read, the values seen in them, the settings
+// written, the values written to them.
+#[derive(Drop)]
+pub struct Lists {
+    pub sources: [u16; 32],
+    pub seen: [i32; 32],
+    pub targets: [u16; 32],
+    pub written: [i32; 32],
+}
+
+impl Lists {
+    // The arrays before a run.
+    pub fn new() -> Self
+        ensures { result ≡ no_lists }
+    {
+        Self {
+            sources: [0; 32],
+            seen: [0; 32],
+            targets: [0; 32],
+            written: [0; 32],
+        }
+    }
+}
 
 // A run between two instructions.
-#[derive(Drop)]
-#[derive(Clone, Copy)]
+#[derive(Clone, Copy, Drop)]
 pub struct Run {
     // The version of the rules: 0, or any other for version 1.
     pub version: u16,
@@ -16,8 +55,7 @@ pub struct Run {
     // How many entries the lists have.
     pub reads: usize,
     pub writes: usize,
-    // 0 going on, 1 stopped, 2 a register named no setting; in version 0, 3 read a setting that it had written, 4 wrote one twice.
-    pub state: u8,
+    pub status: Status,
 }
 
 // v where a is i, else w.
@@ -38,15 +76,15 @@ impl Run {
             place: 0,
             reads: 0,
             writes: 0,
-            state: 0,
+            status: Status::Going,
         }
     }
 
     // Whether the run did not break off.
     pub fn is_whole(self) -> bool
-        ensures { result ≡ ltb self.state 2 }
+        ensures { result ≡ is_whole self.status }
     {
-        self.state < 2
+        !matches!(self.status, Status::Faulted(_))
     }
 
     // Register a set to v. The stores are at literal places, so that the registers stay in machine registers.
@@ -80,53 +118,41 @@ impl Run {
 
     // The run stopped.
     pub fn stop(mut self) -> Self
-        ensures { result ≡ ended self 1 self.writes }
+        ensures { result ≡ ended self Status.Stopped self.writes }
     {
-        self.state = 1;
+        self.status = Status::Stopped;
         self
     }
 
     // The run broken off by a fault: it writes nothing.
-    pub fn fault(mut self, state: u8) -> Self
-        ensures { result ≡ ended self state 0 }
+    pub fn fault(mut self, fault: Fault) -> Self
+        ensures { result ≡ ended self (Status.Faulted fault) 0 }
     {
-        self.state = state;
+        self.status = Status::Faulted(fault);
         self.writes = 0;
         self
     }
 
     // Setting s entered into the read list with the value v.
-    pub fn enter_read(
-        mut self,
-        s: u16,
-        v: i32,
-        sources: &mut [u16; 32],
-        seen: &mut [i32; 32],
-    ) -> Self
+    pub fn enter_read(mut self, s: u16, v: i32, lists: &mut Lists) -> Self
         requires { self.reads < 32 }
-        ensures { (result ≡ entered_read self) × (sources.new ≡ set sources.old self.reads s) × (seen.new ≡ set seen.old self.reads v) }
+        ensures { (result ≡ entered_read self) × (lists.new ≡ with_read self.reads s v lists.old) }
     {
         let n = self.reads;
-        sources[n] = s;
-        seen[n] = v;
+        lists.sources[n] = s;
+        lists.seen[n] = v;
         self.reads = n + 1;
         self
     }
 
     // Setting s entered into the write list with the value v.
-    pub fn enter_write(
-        mut self,
-        s: u16,
-        v: i32,
-        targets: &mut [u16; 32],
-        written: &mut [i32; 32],
-    ) -> Self
+    pub fn enter_write(mut self, s: u16, v: i32, lists: &mut Lists) -> Self
         requires { self.writes < 32 }
-        ensures { (result ≡ entered_write self) × (targets.new ≡ set targets.old self.writes s) × (written.new ≡ set written.old self.writes v) }
+        ensures { (result ≡ entered_write self) × (lists.new ≡ with_write self.writes s v lists.old) }
     {
         let n = self.writes;
-        targets[n] = s;
-        written[n] = v;
+        lists.targets[n] = s;
+        lists.written[n] = v;
         self.writes = n + 1;
         self
     }

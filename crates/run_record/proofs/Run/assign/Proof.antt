@@ -35,7 +35,7 @@ returns c =
     then (p7.pick-7.ensures, p7.before.pick-arg-7-1.given)
     then (c.pick-8.ensures, c.before.pick-arg-8-1.given)
     then tt) in
-    λ i. record { version = r.version; registers = set i; place = r.place; reads = r.reads; writes = r.writes; state = r.state }
+    λ i. record { version = r.version; registers = set i; place = r.place; reads = r.reads; writes = r.writes; status = r.status }
 
 pub assign_spec : {M : Type 1} → statement M
 assign_spec =
