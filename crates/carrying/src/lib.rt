@@ -5,7 +5,10 @@ ghost use Rattle.std.specs.Prelude.{◌≡◌, ◌<◌, length, get_or};
 ghost use Rattle.machine.specs.Settings.{entries, carry};
 ghost use Rattle.model.specs.Tables.{slots, list_in};
 ghost use Rattle.writers.specs.Writers.{OfSettings, WriteLists};
+ghost use Rattle.values.specs.Values.{lists_of};
 ghost use Rattle.carrying.specs.Carrying.{Carried, Carriable, CarriedBelow};
+
+use values::{History, KnownValues};
 
 // A write list carried into some values.
 pub fn carry_list(settings: &[u16], values: &[i32], into: &mut [i32; 1024])
@@ -22,43 +25,28 @@ pub fn carry_list(settings: &[u16], values: &[i32], into: &mut [i32; 1024])
 }
 
 // The writes of a place carried into both lists of values.
-pub fn carry_place(
-    place: usize,
-    writes: &[u16],
-    targets: &[u16],
-    written: &[i32],
-    before: &mut [i32; 1024],
-    after: &mut [i32; 1024],
-)
-    requires { (place < length writes.now)
-        × WriteLists writes.now targets.now written.now
-        × OfSettings (slots 32 place (get_or writes.now place 0) targets.now) }
-    ensures { Carried (list_in writes.now targets.now written.now place)
-        before.old after.old before.new after.new }
+pub fn carry_place(place: usize, history: &History, values: &mut KnownValues)
+    requires { let h = lists_of history.now in
+        (place < length h.writes)
+        × WriteLists h.writes h.targets h.written
+        × OfSettings (slots 32 place (get_or h.writes place 0) h.targets) }
+    ensures { let h = lists_of history.now in
+        Carried (list_in h.writes h.targets h.written place) values.old values.new }
 {
     let begin = 32 * place;
-    let end = begin + writes[place] as usize;
-    carry_list(&targets[begin..end], &written[begin..end], before);
-    carry_list(&targets[begin..end], &written[begin..end], after);
+    let end = begin + history.writes[place] as usize;
+    let targets = &history.targets[begin..end];
+    let written = &history.written[begin..end];
+    carry_list(targets, written, &mut values.before);
+    carry_list(targets, written, &mut values.after);
 }
 
 // The writes of the changes below a position carried into both lists of values, one change after the other.
-pub fn carry_below(
-    k: usize,
-    order: &[u16],
-    writes: &[u16],
-    targets: &[u16],
-    written: &[i32],
-    before: &mut [i32; 1024],
-    after: &mut [i32; 1024],
-)
-    requires { Carriable k order.now writes.now targets.now written.now }
-    ensures { CarriedBelow k order.now writes.now targets.now written.now
-        before.old after.old before.new after.new }
+pub fn carry_below(k: usize, history: &History, values: &mut KnownValues)
+    requires { Carriable k (lists_of history.now) }
+    ensures { CarriedBelow k (lists_of history.now) values.old values.new }
 {
-    let mut p = 0;
-    while p < k {
-        carry_place(order[p] as usize, writes, targets, written, before, after);
-        p += 1;
+    for place in &history.order[..k] {
+        carry_place(*place as usize, history, values);
     }
 }
