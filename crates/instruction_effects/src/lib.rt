@@ -1,7 +1,7 @@
 // The effect of an instruction on the registers of a run, and the setting that it reads.
 #![tactic(auto)]
 
-ghost use Rattle.std.specs.Prelude.{◌≡◌, ◌<◌, ◌≤◌, true};
+ghost use Rattle.std.specs.Prelude.{◌≡◌, ◌<◌, ◌≤◌, true, IfSome, unwrap_or};
 ghost use Rattle.machine.specs.Form.{is_below};
 ghost use Rattle.machine.specs.Run.{effect, wanted, setting_or};
 ghost use Rattle.instruction_effects.specs.Effects.{result_of, distance_of, Operands};
@@ -48,26 +48,26 @@ fn distance(operation: u8, n: i32, x: i32) -> i32
     n
 }
 
-// The setting of this number, or 1,024, which is no setting.
-pub fn setting_or(s: i32) -> usize
-    ensures { result ≡ setting_or s }
+// The setting of this number, if it is below 1,024.
+pub fn setting(s: i32) -> Option<u16>
+    ensures number { unwrap_or result 1024 ≡ setting_or s }
+    ensures below { IfSome result (λ k. k < 1024) }
 {
     if is_below(s, 1024) {
-        return s as usize;
+        Some(s as u16)
+    } else {
+        None
     }
-    1024
 }
 
-// The setting that an effect reads, or 1,024 where it reads none.
-pub fn wanted(e: Effect) -> usize
-    ensures { result ≡ wanted e }
+// The setting that an effect reads.
+pub fn wanted(e: Effect) -> Option<u16>
+    ensures number { unwrap_or result 1024 ≡ wanted e }
+    ensures below { IfSome result (λ k. k < 1024) }
 {
     match e {
-        Effect::Load(_, s) => setting_or(s),
-        Effect::Halt => 1024,
-        Effect::Assign(_, _) => 1024,
-        Effect::Store(_, _) => 1024,
-        Effect::Skip(_) => 1024,
+        Effect::Load(_, s) => setting(s),
+        Effect::Halt | Effect::Assign(_, _) | Effect::Store(_, _) | Effect::Skip(_) => None,
     }
 }
 

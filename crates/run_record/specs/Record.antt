@@ -1,5 +1,5 @@
 -- What the run record and the caller's arrays stand for.
-use Rattle.std.specs.Prelude.{◌≡◌, Bool, true, false, cond, List, [], ◌∷◌, ℕ, zero, suc, ◌+◌, ◌-◌, ◌≤◌, ◌<◌, eqb, ℤ, pos, length, set, replicate}
+use Rattle.std.specs.Prelude.{◌≡◌, Bool, true, false, cond, List, ℕ, ◌+◌, ◌-◌, ◌≤◌, ◌<◌, eqb, ℤ, pos, length, set, replicate}
 use Rattle.machine.specs.declared.Effect.{Effect}
 use Rattle.machine.specs.declared.Effect.TheVariants.{Halt, Assign, Load, Store, Skip}
 use Rattle.machine.specs.Settings.{entries}
@@ -16,12 +16,6 @@ use Rattle.run_record.specs.declared.Run.{Run}
 -- v where a is i, else w
 abbrev pub pick : ℕ → ℕ → ℤ → ℤ → ℤ
 pick a i v w = cond (eqb a i) v w
-
--- the place of the first of count settings that is s, or count where none is
-unfoldable pub first_place : ℕ → ℕ → List ℕ → ℕ
-first_place s zero settings = 0
-first_place s (suc count) [] = suc count
-first_place s (suc count) (x ∷ settings) = cond (eqb x s) 0 (suc (first_place s count settings))
 
 -- ---- the record after a method
 
@@ -62,7 +56,7 @@ with_write k s v l = lists l.sources l.seen (set l.targets k s) (set l.written k
 
 -- ---- the state that a record and the caller's arrays stand for
 
--- the arrays have their 32 places
+-- the arrays have their 32 places, as the type of a run's lists says
 pub record Sized (l : Lists) : Type 0 where
   pub sources : length l.sources ≡ 32
   pub seen : length l.seen ≡ 32
@@ -130,7 +124,6 @@ pub record Stepped (before : Run) (next : Next) (after : Run) (l : Lists) : Type
   pub within : after.place ≤ 32
   pub reads : after.reads ≤ before.place + 1
   pub writes : after.writes ≤ before.place + 1
-  pub sized : Sized l
 
 -- a record and the arrays that hold an outcome
 pub record Ran (r : Run) (l : Lists) (o : Outcome) : Type 0 where
@@ -138,4 +131,3 @@ pub record Ran (r : Run) (l : Lists) (o : Outcome) : Type 0 where
   pub placed : r.place ≤ 32
   pub reads : r.reads ≤ 32
   pub writes : r.writes ≤ 32
-  pub sized : Sized l

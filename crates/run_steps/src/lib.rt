@@ -1,20 +1,20 @@
 // An effect carried out on a run record and the caller's arrays. The rules of the versions are in `load` and `store`.
 #![tactic(auto)]
 
-ghost use Rattle.std.specs.Prelude.{◌≡◌, ◌<◌, ◌≤◌, MatchOption};
+ghost use Rattle.std.specs.Prelude.{◌≡◌, ◌<◌, ◌≤◌, ◌==◌, position, take};
 ghost use Rattle.machine.specs.declared.Effect.TheVariants.{Load, Store};
 ghost use Rattle.machine.specs.Settings.{Environment, everywhere};
 ghost use Rattle.machine.specs.Run.{perform};
-ghost use Rattle.run_record.specs.Record.{first_place, Performable, state_of, Ready, Stepped};
+ghost use Rattle.run_record.specs.Record.{Performable, state_of, Ready, Stepped};
 
-use instruction_effects::setting_or;
+use instruction_effects::setting;
 use machine::Effect;
 use run_record::{Fault, Lists, Run};
 
 // The place of the first of count settings that is s.
 fn first_place(settings: &[u16; 32], count: usize, s: u16) -> Option<usize>
     requires { count ≤ 32 }
-    ensures { MatchOption result (first_place s count settings.now ≡ count) (λ place. (place ≡ first_place s count settings.now) × (place < count)) }
+    ensures { result ≡ position (λ x. x == s) (take count settings.now) }
 {
     settings[..count].iter().position(|x| *x == s)
 }
@@ -25,11 +25,9 @@ fn load(run: Run, a: usize, s: i32, v: i32, lists: &mut Lists) -> Run
     requires { Ready run × (a < 8) }
     ensures { Stepped run (perform (everywhere v) (Load a s) (state_of run lists.old)) result lists.new }
 {
-    let k = setting_or(s);
-    if 1024 <= k {
+    let Some(source) = setting(s) else {
         return run.fault(Fault::NoSetting);
-    }
-    let source = k as u16;
+    };
     if let Some(own) = first_place(&lists.targets, run.writes, source) {
         if run.version == 0 {
             return run.fault(Fault::ReadsWritten);
@@ -47,11 +45,9 @@ fn store(run: Run, s: i32, v: i32, lists: &mut Lists) -> Run
     requires { Ready run }
     ensures { (env : Environment) → Stepped run (perform env (Store s v) (state_of run lists.old)) result lists.new }
 {
-    let k = setting_or(s);
-    if 1024 <= k {
+    let Some(target) = setting(s) else {
         return run.fault(Fault::NoSetting);
-    }
-    let target = k as u16;
+    };
     if let Some(own) = first_place(&lists.targets, run.writes, target) {
         if run.version == 0 {
             return run.fault(Fault::WritesTwice);
