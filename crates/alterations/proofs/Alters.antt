@@ -20,23 +20,6 @@ use Rattle.differences.proofs.Replaced.{Replacing, all-kept, replacing, collecte
 use Rattle.values.proofs.Parts.{part-settings, write-length, same-writes}
 use Rattle.alterations.specs.Altered.{BothWrites, Alterable, Altered}
 
--- ---- both writes, as they are lent
-
-module _ {k : ℕ} {h : HistoryLists} {size : ℕ} {new_targets : List ℕ} {new_written : List ℤ} (a : Alterable k h size new_targets new_written) (w : WriteLists h.writes h.targets h.written) where
-  abbrev place : ℕ
-  place = get_or h.order k 0
-
-  pub both-writes : BothWrites (part 32 place (get_or h.writes place 0) h.targets) (part 32 place (get_or h.writes place 0) h.written) (take size new_targets) (take size new_written)
-  both-writes =
-      record {
-        old-same = same-writes w place a.at.place;
-        new-same = length-take-le size new_targets (omega (arith, a.short, a.target-slots)) ∙ sym (length-take-le size new_written (omega (arith, a.short, a.value-slots)));
-        old-short = omega (arith, write-length w place a.at.place, w.short place);
-        new-short = omega (arith, length-take-le size new_targets (omega (arith, a.short, a.target-slots)), a.short);
-        old-settings = part-settings place (get_or h.writes place 0) h.targets a.settings;
-        new-settings = a.new-settings;
-      }
-
 -- ---- what changes
 
 -- lists with some writes

@@ -18,14 +18,13 @@ pub record BothWrites (old_targets : List ℕ) (old_written : List ℤ) (new_tar
   pub old-settings : OfSettings old_targets
   pub new-settings : OfSettings new_targets
 
--- the first size of new writes, in 32 slots, for the change at a position
-pub record Alterable (k : ℕ) (h : HistoryLists) (size : ℕ) (new_targets : List ℕ) (new_written : List ℤ) : Type 0 where
+-- new writes, at most 32, for the change at a position
+pub record Alterable (k : ℕ) (h : HistoryLists) (new_targets : List ℕ) (new_written : List ℤ) : Type 0 where
   pub at : Positioned k h.order (length h.writes)
   pub settings : OfSettings (slots 32 (get_or h.order k 0) (get_or h.writes (get_or h.order k 0) 0) h.targets)
-  pub short : size ≤ 32
-  pub target-slots : length new_targets ≡ 32
-  pub value-slots : length new_written ≡ 32
-  pub new-settings : OfSettings (take size new_targets)
+  pub same : length new_targets ≡ length new_written
+  pub short : length new_targets ≤ 32
+  pub new-settings : OfSettings new_targets
 
 -- with the values as of the change's position in both lists, the old writes are carried into those before and the new into those after; the settings at which
 -- they differ are collected; what was known is known still
