@@ -89,3 +89,9 @@ pub record Markable (from : ℕ) (C : Columns) (status : List ℕ) (u : SettingU
   pub walkable : Walkable C (length status)
   pub within : (s : ℕ) → s < setting_count → get_or u.readers s 0 ≤ length C.order
   pub settled-to : Settled from C status u.readers u.settled
+
+-- what marking leaves: what is settled, and where readers and writers end as before
+pub record Marked (from : ℕ) (C : Columns) (status : List ℕ) (u u' : SettingUses) : Type 0 where
+  pub readers : u'.readers ≡ u.readers
+  pub writers : u'.writers ≡ u.writers
+  pub settled-to : Settled from C status u'.readers u'.settled

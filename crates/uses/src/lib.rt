@@ -1,7 +1,7 @@
 // How far each setting matters: of each one past the last Valid change that reads it, and one past the last change that writes it.
 #![tactic(auto)]
 
-ghost use Rattle.std.specs.Prelude.{◌≡◌, ◌≤◌, length};
+ghost use Rattle.std.specs.Prelude.{◌≡◌, ◌<◌, ◌≤◌, length};
 ghost use Rattle.writers.specs.Writers.{OfSettings};
 ghost use Rattle.uses.specs.Columns.{list_at, lent_columns, Listed, Walkable};
 ghost use Rattle.uses.specs.Uses as uses;
@@ -22,6 +22,13 @@ pub struct SettingUses {
     pub readers: [u16; 1024],
     pub writers: [u16; 1024],
     pub settled: [u16; 1024],
+}
+
+// A number of a table, as a position.
+pub fn wide(number: u16) -> usize
+    ensures { (result ≡ number) × (result < 65536) }
+{
+    usize::from(number)
 }
 
 // A number stored for each setting of a list.
