@@ -11,6 +11,7 @@ ghost use Rattle.model.specs.Tables.{code_in};
 ghost use Rattle.fresh.specs.HeldRuns.{held_run, HeldPrograms};
 
 use interpreter::run::{carry, run_program};
+use run_record::Lists;
 use start_values::start_table;
 
 // The start value of a setting, by the rule of the table: 1 in field 2, else 0.
@@ -55,20 +56,9 @@ pub fn apply(version: u16, program: &[u8], values: &mut [i32])
     requires { (length program.now ≤ 256) × (all_well_formed program.now ≡ true) × (length values.old ≡ 1024) }
     ensures { values.new ≡ carry (run (value_in values.old) (code version program.now)).writes values.old }
 {
-    let mut sources = [0u16; 32];
-    let mut seen = [0i32; 32];
-    let mut targets = [0u16; 32];
-    let mut written = [0i32; 32];
-    let run = run_program(
-        version,
-        program,
-        values,
-        &mut sources,
-        &mut seen,
-        &mut targets,
-        &mut written,
-    );
-    carry(&targets, &written, run.writes, values);
+    let mut lists = Lists::new();
+    let run = run_program(version, program, values, &mut lists);
+    carry(&lists.targets, &lists.written, run.writes, values);
 }
 
 // The first count changes of the order list run on some values, one after the other, withdrawn ones passed over.

@@ -1,28 +1,35 @@
 -- The run of a program, one instruction at a time, on any environment: what a loop over `effect` and `perform` needs, and what a turn of it keeps.
 use mathlib.Core.Path.{◌≡◌, refl, sym, ap, subst⁻¹, ◌∙◌}
-use mathlib.Core.Bool.{true}
+use mathlib.Core.Bool.{true, false}
 use mathlib.Core.List.{List}
 use Prim.Native.Nat.{ℕ, zero, suc, ◌+◌, ◌-◌, ◌≤◌, ◌<◌}
 use native.Mathlib.Decide.{dec_lt}
 use native.Mathlib.Omega.{arith}
-use borrow.Author.Tests.{eq-eqb, ne_eqb, leb-true, le-leb}
+use borrow.Author.Tests.{leb-true, le-leb}
 use lib.Dec.{eqb}
 use lib.IntN.{ℤ, pos, negsuc}
 use lib.ListN.{length}
 use lib.Signed.{lt_z}
+use mir.Facts.{to_z-of_z}
+use mir.Syntax.{w32}
+use mir.Val.{SFits}
+use Rattle.std.specs.Prelude.{Option, Some, None, IfSome, unwrap_or}
 use Rattle.words.specs.Words.{is_zero}
 use Rattle.machine.specs.declared.Effect.{Effect}
 use Rattle.machine.specs.declared.Instruction.{Instruction}
-use Rattle.machine.specs.Settings.{Environment, entries, everywhere}
+use Rattle.machine.specs.Settings.{setting_count, Environment, entries, everywhere}
 use Rattle.machine.specs.Instruction.{instruction_at, instructions_from, instruction_count, program_of, Code}
 use Rattle.machine.specs.Form.{is_distance, all_well_formed}
 use Rattle.machine.specs.Run.{register_in, effect, State, perform, step, wanted, Outcome, continue, run_from, run_program, run}
 use Rattle.general.proofs.Cases.{by-test, true-is-not-false}
 use Rattle.machine.proofs.Form.{Parts, parts_at}
 use Rattle.machine.proofs.Step.{perform-wanted}
+use Rattle.run_record.specs.declared.Lists.{Lists}
 use Rattle.run_record.specs.declared.Run.{Run}
-use Rattle.run_record.specs.Record.{begun, ended, Performable, Lists, Sized, state_of, outcome_of, proceed, Ready, Stepped, Ran}
-use Rattle.bytecode.proofs.Numbers.{◌then◌, in-range}
+use Rattle.run_record.specs.declared.Status.{Status}
+use Rattle.run_record.specs.declared.Status.TheVariants.{Going, Stopped, Faulted}
+use Rattle.run_record.specs.Record.{begun, ended, Performable, state_of, is_going, outcome_of, proceed, Ready, Stepped, Ran}
+use Rattle.bytecode.proofs.Numbers.{◌then◌, in-range, read}
 use Rattle.instruction_effects.specs.Effects.{distance_of, Operands}
 use Rattle.instruction_effects.proofs.Effects.{effect-at, effect-skips}
 
@@ -67,6 +74,11 @@ module _ (bytes : List ℕ) (f : all_well_formed bytes ≡ true) {place : ℕ} (
 
 -- ---- where a run stands
 
+not-going : (s : Status) → (s ≡ Going → ⊥) → is_going s ≡ false
+not-going Going g = absurd (g refl)
+not-going Stopped g = refl
+not-going (Faulted f) g = refl
+
 -- the definition run on the instructions from the record's place on
 abbrev pub onward : Environment → List ℕ → Run → Lists → Outcome
 onward env bytes r l = run_from env r.place (instructions_from bytes r.place (instruction_count bytes - r.place)) 0 (state_of r l)
@@ -74,11 +86,10 @@ onward env bytes r l = run_from env r.place (instructions_from bytes r.place (in
 -- before an instruction: the definition run from here on is the definition run on the whole
 pub record Reached (env : Environment) (code : Code) (r : Run) (l : Lists) : Type 0 where
   pub rest : onward env code.bytes r l ≡ run env code
-  pub going : r.state ≡ 0
+  pub going : r.status ≡ Going
   pub within : r.place ≤ 32
   pub reads : r.reads ≤ r.place
   pub writes : r.writes ≤ r.place
-  pub sized : Sized l
 
 -- passing over k instructions
 passes : (env : Environment) (bytes : List ℕ) (place count k : ℕ) (state : State) → run_from env place (instructions_from bytes place count) k state ≡ run_from env (place + k) (instructions_from bytes (place + k) (count - k)) 0 state
@@ -95,17 +106,22 @@ passes env bytes place (suc count) (suc k) state =
     let n : count - k ≡ suc count - suc k = omega arith in
     passes env bytes (suc place) count k state ∙ (λ i. run_from env (p i) (instructions_from bytes (p i) (n i)) 0 state)
 
+-- what the setting that an effect wants tells of its value
+pub asked : (env : Environment) (e : Effect) {v : ℤ} (s : Option ℕ) → SFits w32 v → unwrap_or s setting_count ≡ wanted e → IfSome s (λ k. v ≡ env k) → wanted e < setting_count → read v ≡ env (wanted e)
+asked env e (Some k) i q f b = to_z-of_z i ∙ f ∙ ap env q
+asked env e None i q f b = absurd (omega arith)
+
 module _ (env : Environment) (code : Code) (b : length code.bytes ≤ 256) where
   -- a record that has reached an instruction can take it
   pub ready : {r : Run} {l : Lists} → Reached env code r l → r.place < instruction_count code.bytes → Ready r
   ready h p = record { going = h.going; placed = omega arith; reads = h.reads; writes = h.writes }
 
   -- at the start
-  pub begins : {l : Lists} → Sized l → Reached env code (begun code.version) l
+  pub begins : {l : Lists} → Reached env code (begun code.version) l
   unfolding run run_program program_of entries
-  begins {l} z =
+  begins {l} =
       let n : instruction_count code.bytes - 0 ≡ instruction_count code.bytes = omega arith in
-      record { rest = λ i. run_from env 0 (instructions_from code.bytes 0 (n i)) 0 (state_of (begun code.version) l); going = refl; within = omega arith; reads = omega arith; writes = omega arith; sized = z }
+      record { rest = λ i. run_from env 0 (instructions_from code.bytes 0 (n i)) 0 (state_of (begun code.version) l); going = refl; within = omega arith; reads = omega arith; writes = omega arith }
 
   -- past the last instruction
   pub ends : {r : Run} {l : Lists} → Reached env code r l → instruction_count code.bytes ≤ r.place → Ran r l (run env code)
@@ -113,15 +129,14 @@ module _ (env : Environment) (code : Code) (b : length code.bytes ≤ 256) where
   ends {r} {l} h p =
       let n : 0 ≡ instruction_count code.bytes - r.place = omega arith in
       record {
-        outcome = ap (λ (s : ℕ). outcome_of (ended r s r.writes) l) h.going ∙ (λ i. run_from env r.place (instructions_from code.bytes r.place (n i)) 0 (state_of r l)) ∙ h.rest;
+        outcome = ap (λ (s : Status). outcome_of (ended r s r.writes) l) h.going ∙ (λ i. run_from env r.place (instructions_from code.bytes r.place (n i)) 0 (state_of r l)) ∙ h.rest;
         placed = h.within;
         reads = omega arith;
         writes = omega arith;
-        sized = h.sized;
       }
 
   -- one turn: e is the effect of the instruction, v the value of the setting that it wants, and r' and l' follow
-  module _ {r r' : Run} {l l' : Lists} (h : Reached env code r l) (p : r.place < instruction_count code.bytes) {e : Effect} {v : ℤ} (q : e ≡ effect (instruction_at code.bytes r.place) r.registers) (w : v ≡ env (wanted e)) (s : Stepped r (perform (everywhere v) e (state_of r l)) r' l') where
+  module _ {r r' : Run} {l l' : Lists} (h : Reached env code r l) (p : r.place < instruction_count code.bytes) {e : Effect} {v : ℤ} (q : e ≡ effect (instruction_at code.bytes r.place) r.registers) (w : wanted e < setting_count → v ≡ env (wanted e)) (s : Stepped r (perform (everywhere v) e (state_of r l)) r' l') where
     -- how the instructions after this one run
     abbrev rest : ℕ → State → Outcome
     rest = run_from env (suc r.place) (instructions_from code.bytes (suc r.place) (instruction_count code.bytes - suc r.place))
@@ -131,24 +146,23 @@ module _ (env : Environment) (code : Code) (b : length code.bytes ≤ 256) where
     unfolding run_from instructions_from step
     turn =
         let n : suc (instruction_count code.bytes - suc r.place) ≡ instruction_count code.bytes - r.place = omega arith in
-        let one : perform (everywhere v) e (state_of r l) ≡ step env (instruction_at code.bytes r.place) (state_of r l) = rw (w, perform-wanted env e (state_of r l), q) in
+        let one : perform (everywhere v) e (state_of r l) ≡ step env (instruction_at code.bytes r.place) (state_of r l) = rw (perform-wanted env e (state_of r l) v w, q) in
         s.follows rest ∙ ap (continue rest r.place) one ∙ (λ i. run_from env r.place (instructions_from code.bytes r.place (n i)) 0 (state_of r l)) ∙ h.rest
 
     -- the record goes on
-    pub goes_on : r'.state ≡ 0 → Reached env code r' l'
+    pub goes_on : r'.status ≡ Going → Reached env code r' l'
     goes_on g =
         let up = s.rises g in
         let at : suc r.place + (r'.place - (r.place + 1)) ≡ r'.place = omega arith in
         let n : instruction_count code.bytes - suc r.place - (r'.place - (r.place + 1)) ≡ instruction_count code.bytes - r'.place = omega arith in
         record {
-          rest = sym (passes env code.bytes (suc r.place) (instruction_count code.bytes - suc r.place) (r'.place - (r.place + 1)) (state_of r' l') ∙ (λ i. run_from env (at i) (instructions_from code.bytes (at i) (n i)) 0 (state_of r' l'))) ∙ (rw (eq-eqb r'.state 0 g) at turn);
+          rest = sym (passes env code.bytes (suc r.place) (instruction_count code.bytes - suc r.place) (r'.place - (r.place + 1)) (state_of r' l') ∙ (λ i. run_from env (at i) (instructions_from code.bytes (at i) (n i)) 0 (state_of r' l'))) ∙ (rw g at turn);
           going = g;
           within = s.within;
           reads = omega (arith, s.reads);
           writes = omega (arith, s.writes);
-          sized = s.sized;
         }
 
     -- the record has ended
-    pub has_ended : (r'.state ≡ 0 → ⊥) → Ran r' l' (run env code)
-    has_ended g = record { outcome = rw (ne_eqb r'.state 0 g) at turn; placed = s.within; reads = omega (arith, s.reads); writes = omega (arith, s.writes); sized = s.sized }
+    pub has_ended : (r'.status ≡ Going → ⊥) → Ran r' l' (run env code)
+    has_ended g = record { outcome = rw (not-going r'.status g) at turn; placed = s.within; reads = omega (arith, s.reads); writes = omega (arith, s.writes) }

@@ -1,57 +1,47 @@
 // The run of a program on a list of 1,024 values, and the carrying of its writes into one.
-ghost use Rattle.std.specs.Prelude.{◌≡◌, true, ℕ, ◌≤◌, ◌<◌, length, get_or};
+ghost use Rattle.std.specs.Prelude.{◌≡◌, true, ℕ, ◌≤◌, ◌<◌, length, get_or, IfSome};
 ghost use Rattle.machine.specs.Settings.{value_in, entries, carry};
 ghost use Rattle.machine.specs.Instruction.{code};
 ghost use Rattle.machine.specs.Form.{all_well_formed};
 ghost use Rattle.machine.specs.Run.{run};
-ghost use Rattle.run_record.specs.Record.{lists, Sized, Ran};
+ghost use Rattle.run_record.specs.Record.{Ran};
 
 use bytecode::program::instruction_at;
 use instruction_effects::{effect, wanted};
-use run_record::Run;
+use run_record::{Lists, Run, Status};
 use run_steps::perform;
 
-// The value of a setting in a list of values; 0 past its end.
-fn value_in(values: &[i32], s: usize) -> i32
-    ensures { result ≡ value_in values.now s }
+// The value in a list of values of the setting that an effect wants; 0 past its end, or where it wants none.
+fn value_in(values: &[i32], s: Option<u16>) -> i32
+    ensures { IfSome s (λ k. result ≡ value_in values.now k) }
 {
-    if s < values.len() {
-        return values[s];
+    match s {
+        Some(k) => values.get(usize::from(k)).copied().unwrap_or(0),
+        None => 0,
     }
-    0
 }
 
-// The run of a program by the rules of a version, on some values. The lists stand in the arrays, as many entries as the record counts.
-pub fn run_program(
-    version: u16,
-    program: &[u8],
-    values: &[i32],
-    sources: &mut [u16; 32],
-    seen: &mut [i32; 32],
-    targets: &mut [u16; 32],
-    written: &mut [i32; 32],
-) -> Run
-    requires { (length program.now ≤ 256) × (all_well_formed program.now ≡ true) × Sized (lists sources.old seen.old targets.old written.old) }
-    ensures { Ran result (lists sources.new seen.new targets.new written.new) (run (value_in values.now) (code version program.now)) }
+// The run of a program by the rules of a version, on some values. The lists have as many entries as the record counts.
+pub fn run_program(version: u16, program: &[u8], values: &[i32], lists: &mut Lists) -> Run
+    requires { (length program.now ≤ 256) × (all_well_formed program.now ≡ true) }
+    ensures { Ran result lists.new (run (value_in values.now) (code version program.now)) }
 {
     let count = program.len() / 8;
     let mut run = Run::new(version);
-    let mut place = 0;
-    while place < count {
-        let e = effect(run, instruction_at(program, place));
+    while run.place < count {
+        let e = effect(run, instruction_at(program, run.place));
         let v = value_in(values, wanted(e));
-        run = perform(run, e, v, sources, seen, targets, written);
-        if run.state != 0 {
+        run = perform(run, e, v, lists);
+        if run.status != Status::Going {
             return run;
         }
-        place = run.place;
     }
     run
 }
 
 // The first count entries of a write list carried into some values.
-pub fn carry(targets: &[u16; 32], written: &[i32; 32], count: usize, values: &mut [i32])
-    requires { (count ≤ 32) × (length targets.now ≡ 32) × (length written.now ≡ 32) × ((k : ℕ) → k < count → get_or targets.now k 0 < length values.old) }
+pub fn carry(targets: &[u16], written: &[i32], count: usize, values: &mut [i32])
+    requires { (count ≤ length targets.now) × (count ≤ length written.now) × ((k : ℕ) → k < count → get_or targets.now k 0 < length values.old) }
     ensures { values.new ≡ carry (entries count targets.now written.now) values.old }
 {
     let mut i = 0;

@@ -27,7 +27,7 @@ same_length c = ap length c.loop-i.invariant.1 ∙ length-carry _ _
 
 -- the target of a turn is within the values
 within : (c : tie.In-loop-i invariant-loop decreases-loop) → get_or c.before.before.args.targets.now c.before.loop-i.i 0 < length c.before.loop-i.values
-within c = omega (arith, (the (tie.Start invariant-loop decreases-loop) (search)).requires.3 c.before.loop-i.i (omega arith), same_length c.before)
+within c = omega (arith, (the (tie.Start invariant-loop decreases-loop) (search)).requires.2 c.before.loop-i.i (omega arith), same_length c.before)
 
 cast-s : tie.Need-overflow_cast-s invariant-loop decreases-loop
 cast-s c = omega (arith, within (search), same_length (search))

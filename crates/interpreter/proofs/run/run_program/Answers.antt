@@ -1,0 +1,34 @@
+-- `interpreter::run::run_program` meets its contract: from the place of the record on, the definition runs as on the whole.
+use Rattle.std.proofs.Common.{rules, ◌≡◌, arith}
+use borrow.Author.Rules.{sfits_of}
+use Rattle.machine.specs.Settings.{value_in}
+use Rattle.machine.specs.Instruction.{instruction_at}
+use Rattle.machine.specs.Run.{effect}
+use Rattle.interpreter.proofs.Loop.{operands, performable, ready, asked, begins, ends, goes_on, has_ended}
+use Rattle.interpreter.proofs.run.run_program.Goals as goal
+
+pub loop-run-init : goal.loop-run-init
+loop-run-init c = rw c.new-run.ensures (begins _ _ c.requires.0)
+
+pub effect-e-requires : goal.effect-e-requires
+effect-e-requires c = rw c.instruction_at.ensures (operands _ c.requires.1 (omega arith))
+
+pub perform-run-requires : goal.perform-run-requires
+perform-run-requires c =
+    let e : c.effect-e.result ≡ effect (instruction_at c.args.program.now c.loop-run.run.place) c.loop-run.run.registers = rw c.instruction_at.ensures at c.effect-e.ensures in
+    (ready _ _ c.requires.0 c.loop-run.invariant (omega arith), rw e (performable _ c.requires.1 (omega arith) c.requires.0 _))
+
+pub returns-then-ne : goal.returns-then-ne
+returns-then-ne c =
+    let e : c.effect-e.result ≡ effect (instruction_at c.args.program.now c.loop-run.run.place) c.loop-run.run.registers = rw c.instruction_at.ensures at c.effect-e.ensures in
+    let v = asked (value_in c.args.values.now) c.effect-e.result c.wanted.result (sfits_of c.value_in-v.type_inv) c.wanted.ensures.number c.value_in-v.ensures in
+    has_ended _ _ c.requires.0 c.loop-run.invariant (omega arith) e v c.perform-run.ensures (search rules)
+
+pub loop-run-preserved : goal.loop-run-preserved
+loop-run-preserved c =
+    let e : c.effect-e.result ≡ effect (instruction_at c.args.program.now c.loop-run.run.place) c.loop-run.run.registers = rw c.instruction_at.ensures at c.effect-e.ensures in
+    let v = asked (value_in c.args.values.now) c.effect-e.result c.wanted.result (sfits_of c.value_in-v.type_inv) c.wanted.ensures.number c.value_in-v.ensures in
+    goes_on _ _ c.requires.0 c.loop-run.invariant (omega arith) e v c.perform-run.ensures (search rules)
+
+pub returns : goal.returns
+returns c = ends _ _ c.requires.0 c.loop-run.invariant (omega arith)
