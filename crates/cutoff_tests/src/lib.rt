@@ -4,7 +4,7 @@
 ghost use Rattle.std.specs.Prelude.{◌≡◌};
 ghost use Rattle.cutoff_tests.specs.CutoffTests.{refusal_in, Testable};
 
-use search::{Found, rank, waiting};
+use search::{rank, waiting};
 use tables::held_count;
 use timestamps::is_timestamp;
 
@@ -34,8 +34,7 @@ pub fn refusal_of(
     }
     let count = held_count(held);
     let first = rank(timestamp, count, order, timestamps);
-    let found = waiting(count, order, status);
-    if let Found::At(k) = found {
+    if let Some(k) = waiting(count, order, status) {
         if k < first {
             return 15;
         }

@@ -14,7 +14,7 @@ ghost use Rattle.passing.specs.Drained.{drained};
 use carrying::carry_below;
 use fresh::fill_from;
 use passing::pass_from;
-use search::{Found, waiting};
+use search::waiting;
 use uses::last_uses;
 
 // The turns of a drain from its first on, which is that of the change at a position, each counted in totals that are 0 before. All values are known from the start, and how far each
@@ -148,11 +148,10 @@ pub fn turn_all(
         targets.new written.new view.new)
         ≡ drained L }
 {
-    match waiting(count, order, status) {
-        Found::At(first) => turn_from(
+    if let Some(first) = waiting(count, order, status) {
+        turn_from(
             first, count, timestamps, order, status, withdrawn, lengths, programs, reads, writes,
             sources, seen, targets, written, view, versions, kept, totals,
-        ),
-        Found::Nothing => {}
+        );
     }
 }

@@ -51,23 +51,23 @@ module _ {from from' : ℕ} {T U : Tables} {v : SettingUses} (k : LaterKept from
             record {
               sized = r.sized;
               within = λ s h. omega (arith, r.within s h, k.held);
-              bound = λ s p h a b v. let b' : p < held_count T = omega (arith, b, k.held) in r.bound s p h (omega (arith, a, l)) b' (still s p a b' v);
+              bound = λ s p h a b e. let b' : p < held_count T = omega (arith, b, k.held) in r.bound s p h (omega (arith, a, l)) b' (still s p a b' e);
             };
         writers-end =
             record {
               sized = w.sized;
               within = λ s h. omega (arith, w.within s h, k.held);
-              bound = λ s p h a b v. let b' : p < held_count T = omega (arith, b, k.held) in w.bound s p h (omega (arith, a, l)) b' (sym (k.wrote p a b' s) ∙ v);
+              bound = λ s p h a b e. let b' : p < held_count T = omega (arith, b, k.held) in w.bound s p h (omega (arith, a, l)) b' (sym (k.wrote p a b' s) ∙ e);
               last = λ s h a. k.wrote (get_or v.writers s 0 - 1) (omega (arith, a)) (omega (arith, a, w.within s h)) s ∙ w.last s h (omega (arith, a, l));
             };
         settled-to =
             record {
               sized = d.sized;
               within = d.within;
-              unread = λ s p h a b v. d.unread s p h (omega (arith, a, l)) b (still s p a (omega (arith, b, d.within s h, r.within s h)) v);
+              unread = λ s p h a b e. d.unread s p h (omega (arith, a, l)) b (still s p a (omega (arith, b, d.within s h, r.within s h)) e);
               ends =
                   λ s h a.
-                  ⊎_elim (λ v. inl (k.wrote (get_or v.settled s 0 - 1) (omega (arith, a)) (omega (arith, a, d.within s h, r.within s h)) s ∙ v)) inr (d.ends s h (omega (arith, a, l)));
+                  ⊎_elim (λ e. inl (k.wrote (get_or v.settled s 0 - 1) (omega (arith, a)) (omega (arith, a, d.within s h, r.within s h)) s ∙ e)) inr (d.ends s h (omega (arith, a, l)));
             };
       }
 

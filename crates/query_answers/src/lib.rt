@@ -9,7 +9,7 @@ ghost use Rattle.query_answers.specs.Queries.{current_answer, as_of_answer, stan
 
 use fresh::fill_start;
 use model::{Answer, Standing, Value};
-use search::{Found, position, rank};
+use search::{position, rank};
 use timestamps::is_timestamp;
 use values::value_below;
 
@@ -78,11 +78,11 @@ pub fn standing_at(
         return Standing::Refused(14);
     }
     match position(timestamp, count, order, timestamps) {
-        Found::At(k) => {
+        Some(k) => {
             let place = order[k] as usize;
             Standing::At(status[place], withdrawn[place])
         }
-        Found::Nothing => Standing::Refused(10),
+        None => Standing::Refused(10),
     }
 }
 

@@ -1,10 +1,9 @@
 -- What the searches give, as functions of the lent lists.
-use Rattle.std.specs.Prelude.{Bool, cond, not, ◌&&◌, List, ℕ, zero, suc, ◌<◌, ◌≤◌, eqb, ltb, length, get_or}
+use Rattle.std.specs.Prelude.{Bool, cond, not, ◌&&◌, List, ℕ, zero, suc, ◌<◌, ◌≤◌, eqb, ltb, length, get_or, Some, None}
+use Rattle.std.specs.Prelude as prelude
 use Rattle.std.proofs.Math.Option.{Option, none, some}
 use Rattle.model.specs.Form.{timestamp_of}
 use Rattle.model.specs.Tables.{Tables, held_count}
-use Rattle.search.specs.declared.Found.{Found}
-use Rattle.search.specs.declared.Found.TheVariants as found
 
 -- the first count entries of the order list are places below a limit
 pub record PlacesWithin (count : ℕ) (order : List ℕ) (limit : ℕ) : Type 0 where
@@ -26,9 +25,10 @@ position_of order timestamps t count =
     let k = rank_of order timestamps t count in
     cond (stamped_at order timestamps t count k) (some k) none
 
-abbrev pub found_of : Option ℕ → Found
-found_of none = found.Nothing
-found_of (some k) = found.At k
+-- what a search found, as the Option of the program
+abbrev pub found_of : {A : Type 0} → Option A → prelude.Option A
+found_of none = None
+found_of (some x) = Some x
 
 -- ---- the change whose turn it is
 

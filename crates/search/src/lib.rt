@@ -4,14 +4,6 @@
 ghost use Rattle.std.specs.Prelude.{◌≡◌, length};
 ghost use Rattle.search.specs.Searches.{rank_of, stamped_at, position_of, found_of, waiting_of, PlacesWithin};
 
-// A position of the order list.
-#[derive(Drop)]
-#[derive(Clone, Copy)]
-pub enum Found {
-    At(usize),
-    Nothing,
-}
-
 // How many of the first count changes of the order list are stamped below t, counted down from the highest.
 pub fn rank(t: u64, count: usize, order: &[u16], timestamps: &[u64]) -> usize
     requires { PlacesWithin count order.now (length timestamps.now) }
@@ -41,30 +33,27 @@ pub fn stamped_at(t: u64, k: usize, count: usize, order: &[u16], timestamps: &[u
 }
 
 // The position of the change of timestamp t among the first count of the order list.
-pub fn position(t: u64, count: usize, order: &[u16], timestamps: &[u64]) -> Found
+pub fn position(t: u64, count: usize, order: &[u16], timestamps: &[u64]) -> Option<usize>
     requires { PlacesWithin count order.now (length timestamps.now) }
     ensures { result ≡ found_of (position_of order.now timestamps.now t count) }
 {
     let k = rank(t, count, order, timestamps);
-    if stamped_at(t, k, count, order, timestamps) {
-        return Found::At(k);
-    }
-    Found::Nothing
+    stamped_at(t, k, count, order, timestamps).then_some(k)
 }
 
 // The position of the first change of the order list that is New or Invalid.
-pub fn waiting(count: usize, order: &[u16], status: &[u16]) -> Found
+pub fn waiting(count: usize, order: &[u16], status: &[u16]) -> Option<usize>
     requires { PlacesWithin count order.now (length status.now) }
     ensures { result ≡ found_of (waiting_of order.now status.now count) }
 {
     let mut k = 0;
     let found = loop {
         if count <= k {
-            break Found::Nothing;
+            break None;
         }
         let place = order[k] as usize;
         if status[place] != 1 {
-            break Found::At(k);
+            break Some(k);
         }
         k += 1;
     };

@@ -6,13 +6,14 @@ use borrow.Author.Tests.{eq-eqb, ne_eqb}
 use lib.IntN.{ℤ}
 use lib.ListN.{length, get_or}
 use Rattle.general.specs.Lists.{tabulate}
-use Rattle.writers.specs.Writers.{written_of, previous_write}
+use Rattle.search.specs.Searches.{found_of}
+use Rattle.writers.specs.Writers.{previous_write}
 use Rattle.search_exports.specs.Answers.{table_refusal, number_of, search_report, report_by, searches_report}
 
 module _ (settings : List ℕ) (position : ℕ) (order writes targets : List ℕ) (written answers : List ℤ) where
   -- the number of the i-th setting's previous write
   abbrev pub found_at : ℕ → ℤ
-  found_at i = number_of (written_of (previous_write order writes targets written (get_or settings i 0) position))
+  found_at i = number_of (found_of (previous_write order writes targets written (get_or settings i 0) position))
 
   pub not-one-each : (length settings ≡ length answers → ⊥) → search_report 1 answers ≡ searches_report settings position order writes targets written answers
   unfolding searches_report

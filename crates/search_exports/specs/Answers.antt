@@ -1,9 +1,8 @@
 -- Answers of the exported search as numbers.
-use Rattle.std.specs.Prelude.{Bool, cond, ◌&&◌, List, ℕ, zero, suc, ◌*◌, eqb, ltb, leb, ℤ, pos, length, get_or, take}
+use Rattle.std.specs.Prelude.{Bool, cond, ◌&&◌, List, ℕ, zero, suc, ◌*◌, eqb, ltb, leb, ℤ, pos, length, get_or, take, Option, Some, None}
 use Rattle.general.specs.Lists.{all_below, tabulate}
-use Rattle.writers.specs.declared.Written.{Written}
-use Rattle.writers.specs.declared.Written.TheVariants.{Value, Nothing}
-use Rattle.writers.specs.Writers.{written_of, previous_write}
+use Rattle.search.specs.Searches.{found_of}
+use Rattle.writers.specs.Writers.{previous_write}
 
 -- is each of a list below a limit
 abbrev pub each_below : ℕ → List ℕ → Bool
@@ -17,9 +16,9 @@ table_refusal position order writes targets written =
     1
 
 -- a found value, or 2^32
-abbrev pub number_of : Written → ℤ
-number_of (Value v) = v
-number_of Nothing = pos 4294967296
+abbrev pub number_of : Option ℤ → ℤ
+number_of (Some v) = v
+number_of None = pos 4294967296
 
 -- what the searches give their caller: a number, and what the lent answers hold
 pub record Report : Type 0 where
@@ -38,5 +37,5 @@ report_by (suc refusal) found answers = search_report (suc refusal) answers
 unfoldable pub searches_report : List ℕ → ℕ → List ℕ → List ℕ → List ℕ → List ℤ → List ℤ → Report
 searches_report settings position order writes targets written answers =
     report_by (cond (eqb (length settings) (length answers)) (table_refusal position order writes (length targets) (length written)) 1)
-    (tabulate (length settings) (λ i. number_of (written_of (previous_write order writes targets written (get_or settings i 0) position))))
+    (tabulate (length settings) (λ i. number_of (found_of (previous_write order writes targets written (get_or settings i 0) position))))
     answers

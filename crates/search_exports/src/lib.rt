@@ -4,20 +4,13 @@
 ghost use Rattle.std.specs.Prelude.{◌≡◌, length};
 ghost use Rattle.search_exports.specs.Answers.{each_below, table_refusal, number_of, search_report, searches_report};
 
-use writers::{Written, previous_write};
+use writers::previous_write;
 
 // Whether each of a list is below a limit.
 fn each_below(limit: usize, list: &[u16]) -> bool
     ensures { result ≡ each_below limit list.now }
 {
-    let mut i = 0;
-    while i < list.len() {
-        if limit <= list[i] as usize {
-            return false;
-        }
-        i += 1;
-    }
-    true
+    list.iter().all(|x| (*x as usize) < limit)
 }
 
 // 0 where the changes below a position can be searched, 1 where a table has a wrong length, 2 where an entry of the order list is no place or a list is too long.
@@ -32,27 +25,25 @@ fn table_refusal(
         ≡ table_refusal position order.now writes.now (length targets.now) (length written.now) }
 {
     let places = writes.len();
-    if !((places <= 4096) & (position <= order.len())) {
+    if 4096 < places || order.len() < position {
         return 1;
     }
     let slots = 32 * places;
-    if !((targets.len() == slots) & (written.len() == slots)) {
+    if targets.len() != slots || written.len() != slots {
         return 1;
     }
-    if !(each_below(places, &order[0..position]) & each_below(33, writes)) {
-        return 2;
+    if each_below(places, &order[..position]) && each_below(33, writes) {
+        0
+    } else {
+        2
     }
-    0
 }
 
 // A found value, or 2^32, which is none, where nothing was found.
-fn number_of(found: Written) -> i64
+fn number_of(found: Option<i32>) -> i64
     ensures { result ≡ number_of found }
 {
-    match found {
-        Written::Value(v) => v as i64,
-        Written::Nothing => 4294967296,
-    }
+    found.map_or(4294967296, i64::from)
 }
 
 // For each of some settings, the value of its highest write by a change below a position of the order list, or 2^32 where none writes it. The answer is 0; or it is 1 where a lent slice has a wrong length, 2 where one of the first entries of the order list is no
@@ -78,11 +69,9 @@ pub extern "C" fn tolbezun_previous_writes(
     if refusal != 0 {
         return refusal;
     }
-    let mut i = 0;
-    while i < settings.len() {
-        let found = previous_write(settings[i], position, order, writes, targets, written);
+    for (i, s) in settings.iter().enumerate() {
+        let found = previous_write(*s, position, order, writes, targets, written);
         answers[i] = number_of(found);
-        i += 1;
     }
     0
 }

@@ -8,7 +8,7 @@ ghost use Rattle.model.specs.Form.{Formed};
 ghost use Rattle.turns.specs.Turns.{turned, with_lent, WithSome};
 
 use model::Turned;
-use search::{Found, waiting};
+use search::waiting;
 use turns::turn_at;
 
 // One turn: idle, or that of the lowest stamped change that is New or Invalid.
@@ -45,7 +45,7 @@ pub fn turn_once(
         ≡ turned L }
 {
     match waiting(count, order, status) {
-        Found::At(k) => {
+        Some(k) => {
             let mut before = [0i32; 1024];
             let mut after = [0i32; 1024];
             let mut known = [0u8; 1024];
@@ -79,6 +79,6 @@ pub fn turn_once(
                 &mut settled,
             )
         }
-        Found::Nothing => Turned::Idle,
+        None => Turned::Idle,
     }
 }

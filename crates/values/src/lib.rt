@@ -8,7 +8,7 @@ ghost use Rattle.writers.specs.Writers.{OfSettings, WriteLists};
 ghost use Rattle.search.specs.Searches.{PlacesWithin};
 ghost use Rattle.values.specs.Values.{lists_of, values_as_of, IsKnown, AllKnown, Known, Lookable, Looked};
 
-use writers::{Written, previous_write};
+use writers::previous_write;
 
 // What the values as of a position of the order list are looked up in: the order list, the write lists by place, and the kept values.
 #[derive(Clone, Copy, Drop)]
@@ -29,10 +29,8 @@ impl History<'_> {
             × (s < length h.kept) }
         ensures { result ≡ values_as_of (lists_of self.now) k s }
     {
-        match previous_write(s, k, self.order, self.writes, self.targets, self.written) {
-            Written::Value(v) => v,
-            Written::Nothing => self.kept[s as usize],
-        }
+        previous_write(s, k, self.order, self.writes, self.targets, self.written)
+            .unwrap_or(self.kept[s as usize])
     }
 }
 

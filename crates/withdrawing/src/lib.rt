@@ -7,7 +7,7 @@ ghost use Rattle.tables.specs.Parts.{PartFormed, ItemAnswered};
 ghost use Rattle.withdrawing.specs.Withdrawing.{with_lent, unsettled_number};
 
 use model::Answer;
-use search::{Found, position};
+use search::position;
 use tables::held_count;
 use timestamps::is_timestamp;
 
@@ -44,8 +44,7 @@ pub fn withdraw_item(
         return Answer::Refused(14);
     }
     let count = held_count(held);
-    let found = position(timestamp, count, order, timestamps);
-    let Found::At(k) = found else {
+    let Some(k) = position(timestamp, count, order, timestamps) else {
         return Answer::Refused(10);
     };
     let place = order[k] as usize;

@@ -1,4 +1,3 @@
-pub mod Answers
 pub mod Named
 pub mod Steps
 pub mod Model

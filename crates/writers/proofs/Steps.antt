@@ -1,6 +1,6 @@
 -- One step of the search for a writer, counting down.
 use mathlib.Core.Path.{◌≡◌, refl, sym, ap, ◌∙◌}
-use mathlib.Core.Bool.{cond}
+use mathlib.Core.Bool.{true, false, cond}
 use mathlib.Core.List.{List, [], ◌∷◌}
 use mathlib.Core.Option.{Option, none, some}
 use Prim.Native.Nat.{ℕ, zero, suc, ◌+◌, ◌-◌, ◌<◌, ◌≤◌}
@@ -11,12 +11,13 @@ use lib.Dec.{eqb}
 use lib.IntN.{ℤ, pos}
 use lib.ListN.{length, get_or, drop, length-drop}
 use lib.Seq.{get_or-drop}
+use Rattle.general.proofs.Cases.{true-is-not-false}
 use Rattle.machine.specs.Settings.{◌or_if◌, entries, lookup}
 use Rattle.model.specs.Tables.{list_in}
-use Rattle.writers.specs.declared.Written.{Written}
-use Rattle.writers.specs.declared.Written.TheVariants.{Value, Nothing}
-use Rattle.writers.specs.Writers.{written_of, previous_write}
-use Rattle.writers.proofs.Answers.{written-value, written-nothing}
+use Rattle.std.specs.Prelude as prelude
+use Rattle.std.specs.Prelude.{is_some}
+use Rattle.search.specs.Searches.{found_of}
+use Rattle.writers.specs.Writers.{previous_write}
 
 -- ---- a write list, from its last entry
 
@@ -58,19 +59,29 @@ module _ (s start : ℕ) (targets : List ℕ) (written : List ℤ) where
 
 -- ---- the previous write of a setting
 
+-- what was found stands before another
+or-if-here : (rest x : Option ℤ) {w : prelude.Option ℤ} → w ≡ found_of x → is_some w ≡ true → w ≡ found_of (x or_if rest)
+or-if-here rest none p q = true-is-not-false (sym q ∙ ap is_some p)
+or-if-here rest (some v) p q = p
+
+-- where nothing was found, another stands
+or-if-next : (rest x : Option ℤ) {w : prelude.Option ℤ} → w ≡ found_of x → is_some w ≡ false → (x or_if rest) ≡ rest
+or-if-next rest none p q = refl
+or-if-next rest (some v) p q = true-is-not-false (sym (ap is_some p) ∙ q)
+
 module _ (order writes targets : List ℕ) (written : List ℤ) (s : ℕ) where
   -- the value that the change below k writes to the setting
   abbrev write_below : ℕ → Option ℤ
   write_below k = lookup (list_in writes targets written (get_or order (k - 1) 0)) s
 
   -- the change below k writes the setting
-  pub previous-here : (k : ℕ) {w : Written} {v : ℤ} → 0 < k → w ≡ written_of (write_below k) → w ≡ Value v → some v ≡ previous_write order writes targets written s k
+  pub previous-here : (k : ℕ) {w : prelude.Option ℤ} → 0 < k → w ≡ found_of (write_below k) → is_some w ≡ true → w ≡ found_of (previous_write order writes targets written s k)
   unfolding previous_write
   previous-here zero h p q = absurd (omega arith)
-  previous-here (suc k) h p q = rw (rw sub-one at (written-value (write_below (suc k)) p q))
+  previous-here (suc k) h p q = or-if-here _ _ (rw sub-one at p) q
 
   -- the change below k does not write the setting
-  pub previous-lower : (k : ℕ) {w : Written} → 0 < k → w ≡ written_of (write_below k) → w ≡ Nothing → previous_write order writes targets written s (k - 1) ≡ previous_write order writes targets written s k
+  pub previous-lower : (k : ℕ) {w : prelude.Option ℤ} → 0 < k → w ≡ found_of (write_below k) → is_some w ≡ false → previous_write order writes targets written s (k - 1) ≡ previous_write order writes targets written s k
   unfolding previous_write
   previous-lower zero h p q = absurd (omega arith)
-  previous-lower (suc k) h p q = rw (sub-one, rw sub-one at (written-nothing (write_below (suc k)) p q))
+  previous-lower (suc k) h p q = rw sub-one (sym (or-if-next _ _ (rw sub-one at p) q))

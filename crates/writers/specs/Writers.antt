@@ -1,10 +1,8 @@
 -- Lent write lists, and what the search for a writer gives of them.
 use Rattle.std.specs.Prelude.{◌≡◌, List, ℕ, zero, suc, ◌*◌, ◌<◌, ◌≤◌, ℤ, length, get_or}
-use Rattle.std.proofs.Math.Option.{Option, none, some}
+use Rattle.std.proofs.Math.Option.{Option, none}
 use Rattle.machine.specs.Settings.{setting_count, ◌or_if◌, lookup}
 use Rattle.model.specs.Tables.{list_in}
-use Rattle.writers.specs.declared.Written.{Written}
-use Rattle.writers.specs.declared.Written.TheVariants as written_as
 
 -- write lists of at most 32 entries for each of at most 4,096 places
 pub record WriteLists (writes targets : List ℕ) (written : List ℤ) : Type 0 where
@@ -16,10 +14,6 @@ pub record WriteLists (writes targets : List ℕ) (written : List ℤ) : Type 0 
 -- each of a list is a setting
 pub record OfSettings (settings : List ℕ) : Type 0 where
   pub below : (i : ℕ) → i < length settings → get_or settings i 0 < setting_count
-
-abbrev pub written_of : Option ℤ → Written
-written_of none = written_as.Nothing
-written_of (some v) = written_as.Value v
 
 -- the value of the highest write of setting s below a position of the order list
 unfoldable pub previous_write : List ℕ → List ℕ → List ℕ → List ℤ → ℕ → ℕ → Option ℤ

@@ -4,16 +4,8 @@
 ghost use Rattle.std.specs.Prelude.{◌≡◌, ◌+◌, ◌*◌, ◌<◌, ◌≤◌, length, drop};
 ghost use Rattle.machine.specs.Settings.{lookup, entries};
 ghost use Rattle.model.specs.Form.{holds};
-ghost use Rattle.search.specs.Searches.{PlacesWithin};
-ghost use Rattle.writers.specs.Writers.{written_of, previous_write, WriteLists};
-
-// The value that some writes give a setting.
-#[derive(Drop)]
-#[derive(Clone, Copy)]
-pub enum Written {
-    Value(i32),
-    Nothing,
-}
+ghost use Rattle.search.specs.Searches.{found_of, PlacesWithin};
+ghost use Rattle.writers.specs.Writers.{previous_write, WriteLists};
 
 // Whether a list names a setting. Every entry is compared: a loop without an exit is the faster one.
 pub fn names_setting(s: u16, settings: &[u16]) -> bool
@@ -29,24 +21,30 @@ pub fn names_setting(s: u16, settings: &[u16]) -> bool
 }
 
 // The value that the writes of a place give a setting: its last entry counts. Most lists do not name the setting, and are passed by the faster loop.
-pub fn written_at(s: u16, place: usize, count: usize, targets: &[u16], written: &[i32]) -> Written
+pub fn written_at(
+    s: u16,
+    place: usize,
+    count: usize,
+    targets: &[u16],
+    written: &[i32],
+) -> Option<i32>
     requires { (place < 4096) × (count ≤ 32) × (32 * place + 32 ≤ length targets.now) × (32 * place + 32 ≤ length written.now) }
     ensures { result
-        ≡ written_of
+        ≡ found_of
         (lookup (entries count (drop (32 * place) targets.now) (drop (32 * place) written.now)) s) }
 {
     let start = 32 * place;
     if !names_setting(s, &targets[start..start + count]) {
-        return Written::Nothing;
+        return None;
     }
     let mut j = count;
     while 0 < j {
         j -= 1;
         if targets[start + j] == s {
-            return Written::Value(written[start + j]);
+            return Some(written[start + j]);
         }
     }
-    Written::Nothing
+    None
 }
 
 // The value of the highest write of a setting by a change below a position of the order list: the previous writer's.
@@ -57,21 +55,19 @@ pub fn previous_write(
     writes: &[u16],
     targets: &[u16],
     written: &[i32],
-) -> Written
+) -> Option<i32>
     requires { PlacesWithin position order.now (length writes.now) × WriteLists writes.now targets.now written.now }
     ensures { result
-        ≡ written_of
+        ≡ found_of
         (previous_write order.now writes.now targets.now written.now s position) }
 {
-    let mut below = position;
-    while 0 < below {
-        let place = order[below - 1] as usize;
+    for k in (0..position).rev() {
+        let place = order[k] as usize;
         let size = writes[place] as usize;
         let found = written_at(s, place, size, targets, written);
-        if let Written::Value(v) = found {
-            return Written::Value(v);
+        if found.is_some() {
+            return found;
         }
-        below -= 1;
     }
-    Written::Nothing
+    None
 }

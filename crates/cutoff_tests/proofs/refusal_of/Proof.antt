@@ -21,7 +21,7 @@ formed c = search
 abbrev stamped : tie.Else-timestamp-cutoff → tie.Else-not-is_timestamp
 stamped c = search
 
-abbrev above : tie.After-waiting-found → tie.Else-timestamp-cutoff
+abbrev above : tie.After-waiting → tie.Else-timestamp-cutoff
 above c = search
 
 -- ---- needs
@@ -43,32 +43,32 @@ returns-3 c =
 rank-requires : tie.Need-rank-first-requires
 rank-requires c κs = rw c.held_count-count.ensures (asked (formed (stamped (search)))).stamped
 
-waiting-requires : tie.Need-waiting-found-requires
+waiting-requires : tie.Need-waiting-requires
 waiting-requires c κs = let at-held-count : tie.After-held_count-count = search in rw at-held-count.held_count-count.ensures (asked (formed (stamped (search)))).standing
 
 returns-4 : tie.Need-returns-then-k-first
 returns-4 c =
     let at-rank : tie.After-rank-first = search in
     let at-held-count : tie.After-held_count-count = search in
-    let w : tie.After-waiting-found = search in
+    let w : tie.After-waiting = search in
     let u = stamped (above w) in
-    unsettled-before _ _ _ _ _ _ (formed u).if-fault-ne0.false (is-stamp u) (above w).if-timestamp-cutoff.false at-held-count.held_count-count.ensures at-rank.rank-first.ensures _ (found_at _ w.waiting-found.ensures c.in-At.is) c.if-k-first.true
+    unsettled-before _ _ _ _ _ _ (formed u).if-fault-ne0.false (is-stamp u) (above w).if-timestamp-cutoff.false at-held-count.held_count-count.ensures at-rank.rank-first.ensures _ (found_at _ w.waiting.ensures c.in-Some.is) c.if-k-first.true
 
 returns-5 : tie.Need-returns-else-k-first
 returns-5 c =
     let at-rank : tie.After-rank-first = search in
     let at-held-count : tie.After-held_count-count = search in
-    let w : tie.After-waiting-found = search in
+    let w : tie.After-waiting = search in
     let u = stamped (above w) in
-    settled_before _ _ _ _ _ _ (formed u).if-fault-ne0.false (is-stamp u) (above w).if-timestamp-cutoff.false at-held-count.held_count-count.ensures at-rank.rank-first.ensures _ (found_at _ w.waiting-found.ensures c.in-At.is) c.if-k-first.false
+    settled_before _ _ _ _ _ _ (formed u).if-fault-ne0.false (is-stamp u) (above w).if-timestamp-cutoff.false at-held-count.held_count-count.ensures at-rank.rank-first.ensures _ (found_at _ w.waiting.ensures c.in-Some.is) c.if-k-first.false
 
 returns-6 : tie.Need-returns-in_default
 returns-6 c =
     let at-rank : tie.After-rank-first = search in
     let at-held-count : tie.After-held_count-count = search in
-    let w : tie.After-waiting-found = search in
+    let w : tie.After-waiting = search in
     let u = stamped (above w) in
-    all_settled _ _ _ _ _ _ (formed u).if-fault-ne0.false (is-stamp u) (above w).if-timestamp-cutoff.false at-held-count.held_count-count.ensures at-rank.rank-first.ensures (found_nothing _ w.waiting-found.ensures c.in_default.is)
+    all_settled _ _ _ _ _ _ (formed u).if-fault-ne0.false (is-stamp u) (above w).if-timestamp-cutoff.false at-held-count.held_count-count.ensures at-rank.rank-first.ensures (found_nothing _ w.waiting.ensures c.in_default.is)
 
 pub refusal_of_spec : {M : Type 1} → statement M
 refusal_of_spec =

@@ -8,10 +8,10 @@ pub waiting-requires : goal.waiting-requires
 waiting-requires c = placed-status c.requires.0.so
 
 pub turn_from-requires : goal.turn_from-requires
-turn_from-requires c = (record { others = c.requires.0.others; so = (c.requires.0.so, found_at _ c.waiting.ensures c.in-At.is) }, c.requires.1)
+turn_from-requires c = (record { others = c.requires.0.others; so = (c.requires.0.so, found_at _ c.waiting.ensures c.in-Some.is) }, c.requires.1)
 
-pub returns-in-At : goal.returns-in-At
-returns-in-At c T g = c.turn_from.ensures T g
+pub returns-in-Some : goal.returns-in-Some
+returns-in-Some c T g = c.turn_from.ensures T g
 
-pub returns-in-Nothing : goal.returns-in-Nothing
-returns-in-Nothing c T g = pass-none g c.requires.1 (found_nothing _ c.waiting.ensures c.in-Nothing.is)
+pub returns-in_default : goal.returns-in_default
+returns-in_default c T g = pass-none g c.requires.1 (found_nothing _ c.waiting.ensures c.in_default.is)

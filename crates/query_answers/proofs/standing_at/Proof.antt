@@ -16,7 +16,7 @@ use Rattle.query_answers.proofs.standing_at.Tie as tie
 abbrev entry : tie.After-position → tie.Start
 entry c = search
 
-abbrev searched : tie.In-At → tie.After-position
+abbrev searched : tie.In-Some → tie.After-position
 searched c = search
 
 -- the timestamp is one, so the position tells the answer
@@ -24,10 +24,10 @@ told : (c : tie.After-position) {x : Option ℕ} → let a = (entry c).args in p
 told c e = let at-else2 : tie.Else-timestamp-cutoff = search in let t : tie.Else-not-is_timestamp = search in rw (← e, sym t.before.is_timestamp.ensures ∙ t.if-not-is_timestamp.false, le-ltb _ _ at-else2.if-timestamp-cutoff.false)
 
 -- the position that was found, and the place there
-at : (c : tie.In-At) → let a = (entry (searched c)).args in position_of a.order.now a.timestamps.now a.timestamp a.count ≡ some c.in-At.k
-at c = found_at _ (searched c).position.ensures c.in-At.is
+at : (c : tie.In-Some) → let a = (entry (searched c)).args in position_of a.order.now a.timestamps.now a.timestamp a.count ≡ some c.in-Some.k
+at c = found_at _ (searched c).position.ensures c.in-Some.is
 
-within : (c : tie.In-At) → let s = entry (searched c) in let k = c.in-At.k in let place = get_or s.args.order.now k 0 in (k < length s.args.order.now) × (place < length s.args.status.now) × (place < length s.args.withdrawn.now)
+within : (c : tie.In-Some) → let s = entry (searched c) in let k = c.in-Some.k in let place = get_or s.args.order.now k 0 in (k < length s.args.order.now) × (place < length s.args.status.now) × (place < length s.args.withdrawn.now)
 within c =
     let p = (entry (searched c)).requires in
     let k = position-below _ _ _ _ (at c) in
@@ -40,11 +40,11 @@ returns c = rw (sym c.before.is_timestamp.ensures ∙ c.if-not-is_timestamp.true
 returns-2 : tie.Need-returns-then-timestamp-cutoff
 returns-2 c = let t : tie.Else-not-is_timestamp = search in rw (sym t.before.is_timestamp.ensures ∙ t.if-not-is_timestamp.false, lt-ltb _ _ c.if-timestamp-cutoff.true)
 
-returns-3 : tie.Need-returns-in-At
-returns-3 c = let k : tie.In-At = search in told (searched k) (at k)
+returns-3 : tie.Need-returns-in-Some
+returns-3 c = let k : tie.In-Some = search in told (searched k) (at k)
 
-returns-4 : tie.Need-returns-in-Nothing
-returns-4 c = let p : tie.After-position = search in told p (found_nothing _ p.position.ensures c.in-Nothing.is)
+returns-4 : tie.Need-returns-in-None
+returns-4 c = let p : tie.After-position = search in told p (found_nothing _ p.position.ensures c.in-None.is)
 
 pub standing_at_spec : {M : Type 1} → statement M
 standing_at_spec =

@@ -8,10 +8,10 @@ pub waiting-requires : goal.waiting-requires
 waiting-requires c = placed-status c.requires.so
 
 pub turn_at-requires : goal.turn_at-requires
-turn_at-requires c = record { others = c.requires.others; so = turn-single c.requires.so (found_at _ c.waiting.ensures c.in-At.is) }
+turn_at-requires c = record { others = c.requires.others; so = turn-single c.requires.so (found_at _ c.waiting.ensures c.in-Some.is) }
 
-pub returns-in-At : goal.returns-in-At
-returns-in-At c T g = (c.turn_at.ensures T (turn-single g (found_at _ c.waiting.ensures c.in-At.is))).0
+pub returns-in-Some : goal.returns-in-Some
+returns-in-Some c T g = (c.turn_at.ensures T (turn-single g (found_at _ c.waiting.ensures c.in-Some.is))).0
 
-pub returns-in-Nothing : goal.returns-in-Nothing
-returns-in-Nothing c T g = turn-idle g (found_nothing _ c.waiting.ensures c.in-Nothing.is)
+pub returns-in-None : goal.returns-in-None
+returns-in-None c T g = turn-idle g (found_nothing _ c.waiting.ensures c.in-None.is)

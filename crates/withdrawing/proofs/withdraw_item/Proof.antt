@@ -38,38 +38,38 @@ lens s = (facts s.requires.formed).sizes
 abbrev entry : tie.After-is_timestamp → tie.Start
 entry c = search
 
-abbrev start : tie.After-position-found → tie.Start
+abbrev start : tie.After-position → tie.Start
 start c = entry (search)
 
-abbrev searched : tie.In-At → tie.After-position-found
+abbrev searched : tie.In-Some → tie.After-position
 searched c = search
 
-abbrev counted : tie.After-position-found → tie.After-held_count-count
+abbrev counted : tie.After-position → tie.After-held_count-count
 counted c = search
 
-abbrev flagged : tie.Else-withdrawn-place-ne0 → tie.In-At
+abbrev flagged : tie.Else-withdrawn-place-ne0 → tie.In-Some
 flagged c = search
 
 -- ---- what the test and the search tell
 
-stamped : (c : tie.After-position-found) → is_timestamp (start c).args.timestamp ≡ true
+stamped : (c : tie.After-position) → is_timestamp (start c).args.timestamp ≡ true
 stamped c =
     let t : tie.Else-not-is_timestamp = search in
     sym t.before.is_timestamp.ensures ∙ t.if-not-is_timestamp.false
 
-from : (c : tie.After-position-found) → let a = (start c).args in ltb a.timestamp (get_or a.cutoff.now 0 0) ≡ false
+from : (c : tie.After-position) → let a = (start c).args in ltb a.timestamp (get_or a.cutoff.now 0 0) ≡ false
 from c = let at-else2 : tie.Else-timestamp-cutoff = search in le-ltb _ _ at-else2.if-timestamp-cutoff.false
 
-told : (c : tie.After-position-found) (T : Tables) {x : Option ℕ} → let a = (start c).args in position_of a.order.now a.timestamps.now a.timestamp (counted c).held_count-count.result ≡ x → position_in (lent (start c) T) a.timestamp ≡ x
+told : (c : tie.After-position) (T : Tables) {x : Option ℕ} → let a = (start c).args in position_of a.order.now a.timestamps.now a.timestamp (counted c).held_count-count.result ≡ x → position_in (lent (start c) T) a.timestamp ≡ x
 told c T e =
     let a = (start c).args in
     ap (position_of a.order.now a.timestamps.now a.timestamp) (sym (counted c).held_count-count.ensures) ∙ e
 
-at : (c : tie.In-At) (T : Tables) → let s = start (searched c) in position_in (lent s T) s.args.timestamp ≡ some c.in-At.k
-at c T = told (searched c) T (found_at _ (searched c).position-found.ensures c.in-At.is)
+at : (c : tie.In-Some) (T : Tables) → let s = start (searched c) in position_in (lent s T) s.args.timestamp ≡ some c.in-Some.k
+at c T = told (searched c) T (found_at _ (searched c).position.ensures c.in-Some.is)
 
 -- the slots that the code reads and writes are there
-within : (c : tie.In-At) → let a = (start (searched c)).args in let k = c.in-At.k in (k < length a.order.now) × (get_or a.order.now k 0 < length a.status.now) × (get_or a.order.now k 0 < length a.withdrawn.now) × (get_or a.order.now k 0 < 4096)
+within : (c : tie.In-Some) → let a = (start (searched c)).args in let k = c.in-Some.k in (k < length a.order.now) × (get_or a.order.now k 0 < length a.status.now) × (get_or a.order.now k 0 < length a.withdrawn.now) × (get_or a.order.now k 0 < 4096)
 within c =
     let s = start (searched c) in
     let g = s.requires.formed in
@@ -79,7 +79,7 @@ within c =
     let place = (facts g).form.places _ k in
     (omega (arith, l.order), omega (arith, l.status), omega (arith, l.withdrawn), omega (arith, l.capacity))
 
-position-requires : tie.Need-position-found-requires
+position-requires : tie.Need-position-requires
 position-requires c κs =
     let s = entry (search) in
     placed s.requires.formed _ _ (omega (arith, c.held_count-count.ensures)) (lens s).timestamps
@@ -99,12 +99,12 @@ returns-2 c =
 
 returns-3 : tie.Need-returns-in_default
 returns-3 c =
-    let p : tie.After-position-found = search in
-    record { answered = λ T g. not-held-replied g _ (stamped p) (from p) (told p T (found_nothing _ p.position-found.ensures c.in_default.is)) }
+    let p : tie.After-position = search in
+    record { answered = λ T g. not-held-replied g _ (stamped p) (from p) (told p T (found_nothing _ p.position.ensures c.in_default.is)) }
 
 returns-4 : tie.Need-returns-then-withdrawn-place-ne0
 returns-4 c =
-    let f : tie.In-At = search in
+    let f : tie.In-Some = search in
     record { answered = λ T g. already-replied g _ (stamped (searched f)) (from (searched f)) (at f T) c.if-withdrawn-place-ne0.true }
 
 returns-5 : tie.Need-returns
@@ -112,7 +112,7 @@ returns-5 c =
     let e : tie.Else-withdrawn-place-ne0 = search in
     let f = flagged e in
     let a = (start (searched f)).args in
-    let i = get_or a.order.now f.in-At.k 0 in
+    let i = get_or a.order.now f.in-Some.k 0 in
     record {
       answered = λ T g.
           ap (λ (s : ℕ). reply answer.Done (with_lent T a.held.now a.timestamps.now a.order.now (set a.status.now i s) (set a.withdrawn.now i 1) a.cutoff.now)) c.unsettled.ensures

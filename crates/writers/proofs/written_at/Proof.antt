@@ -6,7 +6,7 @@ use borrow.Author.Rules.{rules, sfits_of}
 use lib.ListN.{drop}
 use mir.Facts.{to_z-of_z}
 use Rattle.machine.specs.Settings.{entries, lookup}
-use Rattle.writers.specs.Writers.{written_of}
+use Rattle.search.specs.Searches.{found_of}
 use Rattle.writers.proofs.Named.{not_named}
 use Rattle.writers.proofs.Steps.{first_writes, write-here, write-lower}
 use Rattle.writers.proofs.written_at.Statement.{statement}
@@ -24,7 +24,7 @@ returns c =
     let start : tie.Start invariant-loop decreases-loop = search in
     let a = start.args in
     let n = not_named a.s a.place a.count a.targets.now (drop (32 * a.place) a.written.now) c.before.names_setting.ensures in
-    sym (ap written_of (n c.if-not-names_setting.true))
+    sym (ap found_of (n c.if-not-names_setting.true))
 
 returns-2 : tie.Need-returns-then-targets-start invariant-loop decreases-loop
 returns-2 c =
@@ -34,7 +34,7 @@ returns-2 c =
     let a = start.args in
     let l = at-loop.loop-j in
     let here = write-here a.s (32 * a.place) a.targets.now a.written.now l.j (omega arith) (omega arith) (omega arith) at-then2.if-targets-start.true in
-    rw (to_z-of_z (sfits_of c.result-1.given)) (ap written_of (here ∙ l.invariant.1))
+    rw (to_z-of_z (sfits_of c.result-1.given)) (ap found_of (here ∙ l.invariant.1))
 
 loop-again : tie.Need-loop-j-preserved invariant-loop decreases-loop
 loop-again c =
@@ -49,7 +49,7 @@ unfolding entries lookup
 returns-3 c =
     let at-loop : tie.At-loop-j invariant-loop decreases-loop = search in
     let e : c.before.loop-j.j ≡ 0 = omega arith in
-    ap written_of (rw e at at-loop.loop-j.invariant.1)
+    ap found_of (rw e at at-loop.loop-j.invariant.1)
 
 pub written_at_spec : {M : Type 1} → statement M
 written_at_spec =
