@@ -3,7 +3,8 @@ use Rattle.std.specs.Prelude.{◌≡◌, true, List, ℕ, ◌*◌, ◌≤◌, le
 use Rattle.machine.specs.Form.{all_well_formed}
 use Rattle.machine.specs.Run.{Outcome}
 use Rattle.run_record.specs.declared.Run.{Run}
-use Rattle.run_record.specs.Record.{Lists, Sized, Ran}
+use Rattle.run_record.specs.declared.Lists.{Lists}
+use Rattle.run_record.specs.Record.{Sized, Ran}
 use Rattle.model.specs.Tables.{program_in}
 use Rattle.acts.specs.declared.Act.{Act}
 use Rattle.acts.specs.declared.Act.TheVariants as act

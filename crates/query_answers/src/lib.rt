@@ -11,7 +11,7 @@ use fresh::fill_start;
 use model::{Answer, Standing, Value};
 use search::{position, rank};
 use timestamps::is_timestamp;
-use values::value_below;
+use values::History;
 
 // The value of a setting in the view, or refusal 5.
 pub fn setting_value(view: &[i32], setting: usize) -> Value
@@ -53,7 +53,14 @@ pub fn value_at(
         return Value::Refused(5);
     }
     let k = rank(timestamp, count, order, timestamps);
-    Value::Is(value_below(setting as u16, k, order, writes, targets, written, kept))
+    let history = History {
+        order,
+        writes,
+        targets,
+        written,
+        kept,
+    };
+    Value::Is(history.value_below(setting as u16, k))
 }
 
 // The status and flag of the change of a timestamp among the first count of the order list, or refusal 4, 14 or 10.

@@ -9,7 +9,7 @@ use Rattle.machine.specs.Instruction.{Code}
 use Rattle.machine.specs.Run.{Outcome, run}
 use Rattle.machine.proofs.Lists.{run-bounded}
 use Rattle.run_record.specs.declared.Run.{Run}
-use Rattle.run_record.specs.Record as record_of
+use Rattle.run_record.specs.declared.Lists.{Lists}
 use Rattle.writers.specs.Writers.{OfSettings}
 use Rattle.values.proofs.Model.{new-settings}
 use Rattle.acts.specs.declared.Act.{Act}
@@ -20,7 +20,7 @@ use Rattle.replacement.specs.Replaced.{Fitting, new_columns}
 no-settings : (count : ℕ) (l : List ℕ) → count ≡ 0 → OfSettings (take count l)
 no-settings count l e = rw e (record { below = λ i h. absurd (omega (arith, h)) })
 
-pub made-fits : {a : Act} {r : Run} {l : record_of.Lists} (env : Environment) (p : Code) → (a ≡ act.Stand → ⊥) → length p.bytes ≤ 256 → Made a r l (run env p) → Fitting (new_columns r l)
+pub made-fits : {a : Act} {r : Run} {l : Lists} (env : Environment) (p : Code) → (a ≡ act.Stand → ⊥) → length p.bytes ≤ 256 → Made a r l (run env p) → Fitting (new_columns r l)
 made-fits {a} {r} {l} env p moves h m = go a refl
   where
     go : (b : Act) → a ≡ b → Fitting (new_columns r l)

@@ -51,20 +51,9 @@ module _ {writes targets : List ℕ} {written : List ℤ} (w : WriteLists writes
 
 -- ---- the first count slots of two arrays, as they are lent
 
-module _ {A : Type 0} (count : ℕ) (l : List A) where
-  pub first_part : take (count - 0) (drop 0 l) ≡ take count l
-  first_part = let e : count - 0 ≡ count = omega arith in ap (λ (n : ℕ). take n l) e
-
-  first-length : count ≤ length l → length (take (count - 0) (drop 0 l)) ≡ count
-  first-length b = ap length first_part ∙ length-take-le count l b
-
 module _ (count : ℕ) (settings : List ℕ) (values : List ℤ) (h : count ≤ length settings) (q : count ≤ length values) where
-  pub first-same : length (take (count - 0) (drop 0 settings)) ≡ length (take (count - 0) (drop 0 values))
-  first-same = first-length count settings h ∙ sym (first-length count values q)
+  pub first-same : length (take count settings) ≡ length (take count values)
+  first-same = length-take-le count settings h ∙ sym (length-take-le count values q)
 
-  pub first-entries : entries (length (take (count - 0) (drop 0 settings))) (take (count - 0) (drop 0 settings)) (take (count - 0) (drop 0 values)) ≡ entries count settings values
-  first-entries =
-      let size = first-length count settings h in
-      let first = first_part count settings in
-      let second = first_part count values in
-      (λ j. entries (size j) (first j) (second j)) ∙ entries-take count settings values
+  pub first-entries : entries (length (take count settings)) (take count settings) (take count values) ≡ entries count settings values
+  first-entries = (λ j. entries (length-take-le count settings h j) (take count settings) (take count values)) ∙ entries-take count settings values
