@@ -5,6 +5,7 @@ use Rattle.machine.specs.Instruction.{code}
 use Rattle.machine.specs.Run.{run}
 use Rattle.run_record.specs.declared.Run.{Run}
 use Rattle.run_record.specs.declared.Lists.{Lists}
+use Rattle.run_record.specs.Record.{Sized}
 use Rattle.model.specs.Tables.{slots, program_in}
 use Rattle.writers.specs.Writers.{OfSettings}
 use Rattle.values.specs.declared.KnownValues.{KnownValues}
@@ -41,11 +42,12 @@ pub record Replaceable (k : ℕ) (C : Columns) (seen written kept : List ℤ) (l
 
 -- the columns of the new lists that a run left
 abbrev pub new_columns : Run → Lists → NewLists
-new_columns r l = new_lists r.reads r.writes l
+new_columns r l = new_lists r.reads r.writes l.sources l.seen l.targets l.written
 
 -- the new lists, left by this run, what follows from them, and they are stored
 pub record Replaced (a : Act) (version : ℕ) (new : Run) (k : ℕ) (C : Columns) (seen written kept : List ℤ) (lengths programs status : List ℕ) (view : List ℤ) (u : SettingUses) (status' : List ℕ) (C' : Columns) (seen' written' view' : List ℤ) (u' : SettingUses) (v' : KnownValues) : Type 0 where
   pub arrays : Lists
+  pub sized : Sized arrays
   pub made : Made a new arrays (run (values_at C written kept k) (code version (program_in lengths programs (get_or C.order k 0))))
   pub follows : Propagated k C written kept (entries new.writes arrays.targets arrays.written) status view u status' view' u' v'
   pub put : ListsPut (get_or C.order k 0) (new_columns new arrays) C.reads C.writes C.sources seen C.targets written C'.reads C'.writes C'.sources seen' C'.targets written'

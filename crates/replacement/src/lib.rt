@@ -53,8 +53,8 @@ pub fn replace(
     let run = new_lists(
         act, version, k, lengths, programs, &history, values, &mut lists,
     );
-    let new_targets = &lists.targets[..run.writes];
-    let new_written = &lists.written[..run.writes];
+    let new_targets: &[u16] = &lists.targets;
+    let new_written: &[i32] = &lists.written;
     let columns = Columns {
         order,
         reads,
@@ -64,8 +64,8 @@ pub fn replace(
     };
     propagate(
         k,
-        new_targets,
-        new_written,
+        &new_targets[..run.writes],
+        &new_written[..run.writes],
         &columns,
         written,
         kept,
@@ -76,7 +76,19 @@ pub fn replace(
     );
     let place = order[k] as usize;
     put_lists(
-        place, run.reads, run.writes, &lists, reads, writes, sources, seen, targets, written,
+        place,
+        run.reads,
+        run.writes,
+        &lists.sources,
+        &lists.seen,
+        new_targets,
+        new_written,
+        reads,
+        writes,
+        sources,
+        seen,
+        targets,
+        written,
     );
     run
 }

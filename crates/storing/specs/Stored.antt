@@ -1,6 +1,5 @@
 -- Lists stored at a place of the tables (document 01, "Tables"): a count, and 32 slots of which those behind the list hold 0.
 use Rattle.std.specs.Prelude.{◌≡◌, List, ◌++◌, ℕ, ◌+◌, ◌*◌, ◌<◌, ◌≤◌, ℤ, pos, length, get_or, set, take, drop}
-use Rattle.run_record.specs.declared.Lists.{Lists}
 use Rattle.model.specs.Tables.{pad}
 
 -- the 32 slots of a place replaced: a list with zeros behind it
@@ -47,8 +46,8 @@ pub record NewLists : Type 0 where
   pub targets : List ℕ
   pub written : List ℤ
 
-abbrev pub new_lists : ℕ → ℕ → Lists → NewLists
-new_lists reads writes l = record { reads = reads; writes = writes; sources = l.sources; seen = l.seen; targets = l.targets; written = l.written }
+abbrev pub new_lists : ℕ → ℕ → List ℕ → List ℤ → List ℕ → List ℤ → NewLists
+new_lists reads writes sources seen targets written = record { reads = reads; writes = writes; sources = sources; seen = seen; targets = targets; written = written }
 
 -- the six columns of the lists can take new lists at a place
 pub record ListsStorable (place : ℕ) (l : NewLists) (reads writes sources : List ℕ) (seen : List ℤ) (targets : List ℕ) (written : List ℤ) : Type 0 where

@@ -4,8 +4,6 @@
 ghost use Rattle.std.specs.Prelude.{◌≡◌, pos, take};
 ghost use Rattle.storing.specs.Stored.{replaced, replaced_z, Storable, ListStorable, ListPut, new_lists, ListsStorable, ListsPut};
 
-use run_record::Lists;
-
 // The 32 slots of a place that had the first `old` in use: the first count settings of a list, then zeros.
 pub fn put_settings(place: usize, old: usize, list: &[u16], count: usize, settings: &mut [u16])
     requires { Storable 0 place old list.now count settings.old }
@@ -66,7 +64,10 @@ pub fn put_lists(
     place: usize,
     read_count: usize,
     write_count: usize,
-    new: &Lists,
+    new_sources: &[u16],
+    new_seen: &[i32],
+    new_targets: &[u16],
+    new_written: &[i32],
     reads: &mut [u16],
     writes: &mut [u16],
     sources: &mut [u16],
@@ -74,9 +75,10 @@ pub fn put_lists(
     targets: &mut [u16],
     written: &mut [i32],
 )
-    requires { let l = new_lists read_count write_count new.now in
+    requires { let l = new_lists read_count write_count new_sources.now new_seen.now new_targets.now new_written.now in
         ListsStorable place l reads.old writes.old sources.old seen.old targets.old written.old }
-    ensures { let l = new_lists read_count write_count new.now in
+    ensures { let l = new_lists read_count write_count
+        new_sources.now new_seen.now new_targets.now new_written.now in
         ListsPut place l
         reads.old writes.old sources.old seen.old targets.old written.old
         reads.new writes.new sources.new seen.new targets.new written.new }
@@ -84,8 +86,8 @@ pub fn put_lists(
     put_list(
         place,
         read_count,
-        &new.sources,
-        &new.seen,
+        new_sources,
+        new_seen,
         reads,
         sources,
         seen,
@@ -93,8 +95,8 @@ pub fn put_lists(
     put_list(
         place,
         write_count,
-        &new.targets,
-        &new.written,
+        new_targets,
+        new_written,
         writes,
         targets,
         written,

@@ -206,7 +206,7 @@ module _ {T : Tables} (g : Formed (length T.order) T) (k : ℕ) (w : waiting_in 
         short = subst⁻¹ (λ (p : Code). length p.bytes ≤ 256) (program-here g k held-here) (program-size g k held-here)
 
         fits : Fitting l
-        fits = made-fits _ _ moves short r.made
+        fits = made-fits _ _ moves short r.sized r.made
 
         same : run (values_below T.order T.writes T.targets T.written T.kept k) (code version (program_in T.lengths T.programs place)) ≡ run env (program this)
         same = ap₂ run upto (ap (λ (x : ℕ). code x (program_in T.lengths T.programs place)) v ∙ program-here g k held-here)
