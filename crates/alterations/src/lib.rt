@@ -7,9 +7,9 @@ ghost use Rattle.model.specs.Tables.{list_in};
 ghost use Rattle.values.specs.Values.{lists_of, values_as_of, Lookable};
 ghost use Rattle.alterations.specs.Altered.{BothWrites, Alterable, Altered};
 
-use carrying::carry_list;
 use differences::collect_changed;
 use values::{History, KnownValues};
+use write_lists::carry;
 
 // The old writes carried into the values before, the new ones into those after: the settings of both at which they differ. Answers how many.
 fn alter_writes(
@@ -32,8 +32,8 @@ fn alter_writes(
 {
     values.know_list(old_targets, k, history);
     values.know_list(new_targets, k, history);
-    carry_list(old_targets, old_written, &mut values.before);
-    carry_list(new_targets, new_written, &mut values.after);
+    carry(old_targets, old_written, &mut values.before);
+    carry(new_targets, new_written, &mut values.after);
     let count = collect_changed(old_targets, &values.before, &values.after, changed, 0);
     collect_changed(new_targets, &values.before, &values.after, changed, count)
 }

@@ -1,19 +1,19 @@
--- Laws of carried writes: known values are known as of the next position, and from the first position on.
-use mathlib.Core.Path.{sym, ap, subst, ◌∙◌}
+-- Laws of carried writes: carried change after change, and into known values, which are known as of the next position then.
+use mathlib.Core.Path.{◌≡◌, refl, sym, ap, subst, ◌∙◌}
 use mathlib.Core.Bool.{Bool, false}
 use mathlib.Core.List.{List}
-use Prim.Native.Nat.{ℕ, suc, ◌+◌}
+use Prim.Native.Nat.{ℕ, zero, suc, ◌+◌}
 use native.Mathlib.Numerals.{add-one}
 use native.Mathlib.Omega.{arith}
 use lib.IntN.{ℤ}
 use lib.ListN.{length, get_or}
-use Rattle.machine.specs.Settings.{Environment, Entry, after}
+use Rattle.machine.specs.Settings.{Environment, Entry, after, carry}
 use Rattle.machine.proofs.Settings.{length-carry}
 use Rattle.model.specs.Tables.{list_in}
 use Rattle.values.specs.declared.KnownValues.{KnownValues}
 use Rattle.values.specs.Values.{HistoryLists, values_below, IsKnown, Known}
 use Rattle.values.proofs.Known.{carried-at, values-first, values-next}
-use Rattle.carrying.specs.Carrying.{Carried, CarriedBelow}
+use Rattle.carrying.specs.Carrying.{Carried, carried_first, CarriedBelow}
 
 -- writes carried into both lists of values are carried into the environment
 pub known_carried : {env : Environment} {v v' : KnownValues} {writes : List Entry} → Known env v → Carried writes v v' → Known (after writes env) v'
@@ -36,11 +36,26 @@ pub known_next :
 known_next order writes targets written kept k {v} {v'} h c =
     subst (λ (env : Environment). Known env v') (sym (values-next order writes targets written kept k)) (known_carried h c)
 
--- the writes of the changes below a position carried, one change after the other
+-- the writes of the first changes of the order list, one change after the other
+module _ (writes : ℕ → List Entry) (order : List ℕ) (values₀ : List ℤ) where
+  pub carried-length : (k : ℕ) → length (carried_first writes order values₀ k) ≡ length values₀
+  unfolding carried_first
+  carried-length zero = refl
+  carried-length (suc k) = length-carry _ _ ∙ carried-length k
+
+  pub carried_none : values₀ ≡ carried_first writes order values₀ 0
+  unfolding carried_first
+  carried_none = refl
+
+  pub carried-next : (k : ℕ) {place : ℕ} {values after : List ℤ} → values ≡ carried_first writes order values₀ k → place ≡ get_or order k 0 → after ≡ carry (writes place) values → after ≡ carried_first writes order values₀ (k + 1)
+  unfolding carried_first
+  carried-next k e p q = rw (q, e, p, add-one)
+
+-- carried into both lists of known values
 module _ (h : HistoryLists) {v : KnownValues} where
-  pub carried_none : CarriedBelow 0 h v v
-  carried_none =
+  pub below_none : CarriedBelow 0 h v v
+  below_none =
       record { right = λ kept q. subst (λ (env : Environment). Known env v) (sym (values-first h.order h.writes h.targets h.written kept)) q }
 
-  pub carried-more : {j : ℕ} {v₁ v₂ : KnownValues} → CarriedBelow j h v v₁ → Carried (list_in h.writes h.targets h.written (get_or h.order j 0)) v₁ v₂ → CarriedBelow (j + 1) h v v₂
-  carried-more {j} b c = record { right = λ kept q. rw (add-one j) (known_next h.order h.writes h.targets h.written kept j (b.right kept q) c) }
+  pub below-more : (j : ℕ) {place : ℕ} {v₁ v₂ : KnownValues} → CarriedBelow j h v v₁ → place ≡ get_or h.order j 0 → Carried (list_in h.writes h.targets h.written place) v₁ v₂ → CarriedBelow (j + 1) h v v₂
+  below-more j b p c = record { right = λ kept q. rw (add-one j) (known_next h.order h.writes h.targets h.written kept j (b.right kept q) (rw p at c)) }

@@ -18,15 +18,12 @@ pub fn collect_changed(
         count changed.old result changed.new }
 {
     let mut total = count;
-    let mut i = 0;
-    while i < settings.len() {
-        let s = settings[i];
-        let x = s as usize;
-        changed[total] = s;
+    for s in settings {
+        let x = *s as usize;
+        changed[total] = *s;
         if before[x] != after[x] {
             total += 1;
         }
-        i += 1;
     }
     total
 }
@@ -36,10 +33,8 @@ pub fn restore(settings: &[u16], after: &[i32; 1024], before: &mut [i32; 1024])
     requires { OfSettings settings.now }
     ensures { before.new ≡ restored settings.now after.now before.old }
 {
-    let mut j = 0;
-    while j < settings.len() {
-        let s = settings[j] as usize;
+    for setting in settings {
+        let s = *setting as usize;
         before[s] = after[s];
-        j += 1;
     }
 }

@@ -40,7 +40,7 @@ module _ {T : Tables} {first : ℕ} (g : Formed (length T.order) T) (w : waiting
   within = (first_some waits (held_count T) first w).0
 
   -- what `carry_below` relies on
-  pub writes_below : Carriable first (history_lists T.order T.writes T.targets T.written T.kept)
+  pub writes_below : Carriable first T.order T.writes T.targets T.written
   writes_below =
       record {
         placed = placed-writes g first (omega (arith, within));

@@ -17,8 +17,8 @@ use Rattle.search.proofs.Steps.{rank-within}
 use Rattle.search.proofs.Split.{after_next, split-as-of}
 use Rattle.writers.proofs.Model.{wrote}
 use Rattle.search.proofs.Model.{history_in, rank_in, history-length, rank-splits}
-use Rattle.dropping.specs.Dropping.{carried_first}
-use Rattle.dropping.proofs.Carried.{carried-length}
+use Rattle.carrying.specs.Carrying.{carried_first}
+use Rattle.carrying.proofs.Carried.{carried-length}
 
 module _ {n : ℕ} {T : Tables} (g : Formed n T) where
   abbrev carried_in : ℕ → List ℤ

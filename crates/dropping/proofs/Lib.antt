@@ -1,4 +1,2 @@
-pub mod Carried
-pub mod Drops
 pub mod Kept
 pub mod Model

@@ -1,20 +1,12 @@
 -- What dropping changes leaves, as functions of the lent lists.
-use Rattle.std.specs.Prelude.{◌≡◌, List, ℕ, zero, suc, ◌≤◌, ℤ, length, get_or, set}
-use Rattle.machine.specs.Settings.{setting_count, Entry, carry}
+use Rattle.std.specs.Prelude.{◌≡◌, List, ℕ, ◌≤◌, ℤ, length, get_or, set}
+use Rattle.machine.specs.Settings.{setting_count}
 use Rattle.model.specs.Tables.{list_in}
 use Rattle.search.specs.Searches.{PlacesWithin, rank_of}
-use Rattle.carrying.specs.Carrying.{Carriable}
+use Rattle.carrying.specs.Carrying.{Carriable, carried_first}
 use Rattle.compaction.specs.Closed.{Remaining, renumbered_by}
 
--- ---- the kept values
-
--- the writes of the first changes of the order list, one change after the other, carried into some values
-unfoldable pub carried_first : (ℕ → List Entry) → List ℕ → List ℤ → ℕ → List ℤ
-carried_first writes order values zero = values
-carried_first writes order values (suc k) = carry (writes (get_or order k 0)) (carried_first writes order values k)
-
--- ---- changes dropped from the order list
-
+-- what dropping relies on
 pub record Droppable (held timestamps order writes targets : List ℕ) (written : List ℤ) (cutoff : List ℕ) (kept : List ℤ) : Type 0 where
   pub counted : length held ≡ 1
   pub capacity : length timestamps ≤ 4096

@@ -1,3 +1,2 @@
 pub mod HeldRun
 pub mod Model
-pub mod Start

@@ -10,20 +10,16 @@ ghost use Rattle.model.specs.History.{start, all_settings};
 ghost use Rattle.model.specs.Tables.{code_in};
 ghost use Rattle.fresh.specs.HeldRuns.{held_run, HeldPrograms};
 
-use interpreter::run::{carry, run_program};
+use interpreter::run::run_program;
 use run_record::Lists;
 use start_values::start_table;
+use write_lists::carry;
 
 // The start value of a setting, by the rule of the table: 1 in field 2, else 0.
 pub fn start_value(s: usize) -> i32
     ensures { result ≡ start s }
 {
-    if s < 1024 {
-        if s % 16 == 2 {
-            return 1;
-        }
-    }
-    0
+    if s < 1024 && s % 16 == 2 { 1 } else { 0 }
 }
 
 // Every setting set to its start value, from the table.
@@ -31,12 +27,7 @@ pub fn fill_start(values: &mut [i32])
     requires { length values.old ≡ 1024 }
     ensures { values.new ≡ all_settings start }
 {
-    let table = start_table();
-    let mut s = 0;
-    while s < 1024 {
-        values[s] = table[s];
-        s += 1;
-    }
+    values.copy_from_slice(&start_table());
 }
 
 // Every setting set to the value that a list has of it.
@@ -44,11 +35,7 @@ pub fn fill_from(from: &[i32], values: &mut [i32])
     requires { (length from.now ≡ 1024) × (length values.old ≡ 1024) }
     ensures { values.new ≡ from.now }
 {
-    let mut i = 0;
-    while i < 1024 {
-        values[i] = from[i];
-        i += 1;
-    }
+    values.copy_from_slice(from);
 }
 
 // A program run by the rules of a version on some values, and its writes carried into them.
@@ -58,7 +45,9 @@ pub fn apply(version: u16, program: &[u8], values: &mut [i32])
 {
     let mut lists = Lists::new();
     let run = run_program(version, program, values, &mut lists);
-    carry(&lists.targets, &lists.written, run.writes, values);
+    let targets: &[u16] = &lists.targets;
+    let written: &[i32] = &lists.written;
+    carry(&targets[..run.writes], &written[..run.writes], values);
 }
 
 // The first count changes of the order list run on some values, one after the other, withdrawn ones passed over.
@@ -77,15 +66,13 @@ pub fn run_held(
         (code_in lengths.now programs.now versions.now)
         values.old count }
 {
-    let mut k = 0;
-    while k < count {
-        let place = order[k] as usize;
+    for place in &order[..count] {
+        let place = *place as usize;
         let stands = withdrawn[place] == 0;
         if stands {
             let begin = 256 * place;
             let end = begin + 8 * (lengths[place] as usize);
             apply(versions[place], &programs[begin..end], values);
         }
-        k += 1;
     }
 }

@@ -1,6 +1,6 @@
-// The run of a program on a list of 1,024 values, and the carrying of its writes into one.
-ghost use Rattle.std.specs.Prelude.{◌≡◌, true, ℕ, ◌≤◌, ◌<◌, length, get_or, IfSome};
-ghost use Rattle.machine.specs.Settings.{value_in, entries, carry};
+// The run of a program on a list of 1,024 values.
+ghost use Rattle.std.specs.Prelude.{◌≡◌, true, ◌≤◌, length, IfSome};
+ghost use Rattle.machine.specs.Settings.{value_in};
 ghost use Rattle.machine.specs.Instruction.{code};
 ghost use Rattle.machine.specs.Form.{all_well_formed};
 ghost use Rattle.machine.specs.Run.{run};
@@ -37,17 +37,4 @@ pub fn run_program(version: u16, program: &[u8], values: &[i32], lists: &mut Lis
         }
     }
     run
-}
-
-// The first count entries of a write list carried into some values.
-pub fn carry(targets: &[u16], written: &[i32], count: usize, values: &mut [i32])
-    requires { (count ≤ length targets.now) × (count ≤ length written.now) × ((k : ℕ) → k < count → get_or targets.now k 0 < length values.old) }
-    ensures { values.new ≡ carry (entries count targets.now written.now) values.old }
-{
-    let mut i = 0;
-    while i < count {
-        let s = targets[i] as usize;
-        values[s] = written[i];
-        i += 1;
-    }
 }

@@ -1,15 +1,12 @@
 -- The rule of the start values, at every setting. Assumes nothing.
-use mathlib.Core.Path.{◌≡◌, refl, subst⁻¹, ap, ◌∙◌}
-use mathlib.Core.Bool.{Bool, true, false, cond}
+use mathlib.Core.Path.{◌≡◌, refl, ap, ◌∙◌}
+use mathlib.Core.Bool.{cond}
 use mathlib.Core.List.{List, [], ◌∷◌}
 use Prim.Native.Nat.{ℕ, zero, suc, ◌+◌, ◌*◌, ◌%◌, ◌<◌}
 use native.Mathlib.Omega.{arith}
 use lib.Dec.{eqb}
 use lib.IntN.{ℤ, pos}
 use lib.ListN.{length, get_or}
-use mir.Syntax.{w32}
-use mir.Val.{SFits}
-use mir.Facts.{sfits_lit}
 use Rattle.start_values.specs.StartValues.{start_table, start_rule}
 
 -- the values by the rule of so many settings, from setting i on
@@ -44,11 +41,3 @@ table-field port field p f =
 pub length-table : length start_table ≡ 1024
 unfolding start_table
 length-table = refl
-
--- each value fits the 32 bits of a setting
-fits-rule : (b : Bool) → SFits w32 (cond b (pos 1) (pos 0))
-fits-rule true = sfits_lit tt
-fits-rule false = sfits_lit tt
-
-pub table_fits : (s : ℕ) → s < 1024 → SFits w32 (get_or start_table s (pos 0))
-table_fits s h = subst⁻¹ (SFits w32) (table_at s h) (fits-rule (eqb (s % 16) 2))

@@ -1,18 +1,27 @@
 // The totals of a drain for each console: turns are counted one by one.
 #![tactic(auto)]
 
-ghost use Rattle.std.specs.Prelude.{◌≡◌, ◌<◌};
+ghost use Rattle.std.specs.Prelude.{◌≡◌};
 ghost use Rattle.model.specs.Drain.{console};
-ghost use Rattle.totals.specs.Counted.{Countable, counted_at, counted_in};
+ghost use Rattle.totals.specs.Counted.{Countable, kind_number, counted_at, counted_in};
 
 use model::Turned;
 
+// What a counted turn did, in the order of a console's totals.
+#[derive(Clone, Copy)]
+enum Kind {
+    Ran,
+    Stood,
+    Cleared,
+    Faulted,
+}
+
 // One more turn of a kind, by the console of its timestamp.
-fn count(t: u64, kind: usize, totals: &mut [u16])
-    requires { (kind < 4) × Countable totals.old }
-    ensures { totals.new ≡ counted_at (console t) kind totals.old }
+fn count(t: u64, kind: Kind, totals: &mut [u16])
+    requires { Countable totals.old }
+    ensures { totals.new ≡ counted_at (console t) (kind_number kind) totals.old }
 {
-    let place = (t % 256) as usize * 4 + kind;
+    let place = (t % 256) as usize * 4 + kind as usize;
     totals[place] += 1;
 }
 
@@ -23,10 +32,10 @@ pub fn count_turn(answer: Turned, totals: &mut [u16])
 {
     match answer {
         Turned::Idle => {}
-        Turned::Ran(t) => count(t, 0, totals),
-        Turned::Stood(t) => count(t, 1, totals),
-        Turned::Cleared(t) => count(t, 2, totals),
-        Turned::Faulted(t, _) => count(t, 3, totals),
+        Turned::Ran(t) => count(t, Kind::Ran, totals),
+        Turned::Stood(t) => count(t, Kind::Stood, totals),
+        Turned::Cleared(t) => count(t, Kind::Cleared, totals),
+        Turned::Faulted(t, _) => count(t, Kind::Faulted, totals),
         Turned::Refused(_) => {}
     }
 }

@@ -21,12 +21,10 @@ pub fn follow_view(
         ≡ followed writers.now (k + 1) after.now changed.now view.old }
 {
     let from = k + 1;
-    let mut i = 0;
-    while i < changed.len() {
-        let s = changed[i] as usize;
+    for s in changed {
+        let s = *s as usize;
         if wide(writers[s]) <= from {
             view[s] = after[s];
         }
-        i += 1;
     }
 }
