@@ -1,5 +1,6 @@
 -- Laws of carried writes: carried change after change, and into known values, which are known as of the next position then.
 use mathlib.Core.Path.{◌≡◌, refl, sym, ap, subst, ◌∙◌}
+use mathlib.Core.Bool.{Bool, false}
 use mathlib.Core.List.{List}
 use Prim.Native.Nat.{ℕ, zero, suc, ◌+◌}
 use native.Mathlib.Numerals.{add-one}
@@ -9,31 +10,31 @@ use lib.ListN.{length, get_or}
 use Rattle.machine.specs.Settings.{Environment, Entry, after, carry}
 use Rattle.machine.proofs.Settings.{length-carry}
 use Rattle.model.specs.Tables.{list_in}
-use Rattle.values.specs.Values.{values_below, Known}
+use Rattle.values.specs.declared.KnownValues.{KnownValues}
+use Rattle.values.specs.Values.{HistoryLists, values_below, IsKnown, Known}
 use Rattle.values.proofs.Known.{carried-at, values-first, values-next}
 use Rattle.carrying.specs.Carrying.{Carried, carried_first, CarriedBelow}
 
 -- writes carried into both lists of values are carried into the environment
-pub known_carried :
-    {env : Environment} {known : List ℕ} {before after₀ before' after' : List ℤ} {writes : List Entry} →
-    Known env known before after₀ →
-    Carried writes before after₀ before' after' →
-    Known (after writes env) known before' after'
-known_carried {env} {known} {before} {after₀} {before'} {after'} {writes} h c =
+pub known_carried : {env : Environment} {v v' : KnownValues} {writes : List Entry} → Known env v → Carried writes v v' → Known (after writes env) v'
+known_carried {env} {v} {v'} {writes} h c =
     record {
-      sizes = record { notes = h.sizes.notes; befores = ap length c.before-is ∙ length-carry writes before ∙ h.sizes.befores; afters = ap length c.after_is ∙ length-carry writes after₀ ∙ h.sizes.afters };
-      before-is = λ s l q. carried-at env writes before c.before-is s (omega (arith, h.sizes.befores)) (h.before-is s l q);
-      after_is = λ s l q. carried-at env writes after₀ c.after_is s (omega (arith, h.sizes.afters)) (h.after_is s l q);
+      sizes = record { notes = ap length c.known ∙ h.sizes.notes; befores = ap length c.before-is ∙ length-carry writes v.before ∙ h.sizes.befores; afters = ap length c.after_is ∙ length-carry writes v.after ∙ h.sizes.afters };
+      before-is = λ s l q. carried-at env writes v.before c.before-is s (omega (arith, h.sizes.befores)) (h.before-is s l (was s q));
+      after_is = λ s l q. carried-at env writes v.after c.after_is s (omega (arith, h.sizes.afters)) (h.after_is s l (was s q));
     }
+  where
+    was : (s : ℕ) → IsKnown v' s → IsKnown v s
+    was s q = sym (ap (λ (n : List Bool). get_or n s false) c.known) ∙ q
 
 -- past a change whose writes are carried: the values as of the next position
 pub known_next :
-    (order writes targets : List ℕ) (written kept : List ℤ) (k : ℕ) {known : List ℕ} {before after₀ before' after' : List ℤ} →
-    Known (values_below order writes targets written kept k) known before after₀ →
-    Carried (list_in writes targets written (get_or order k 0)) before after₀ before' after' →
-    Known (values_below order writes targets written kept (suc k)) known before' after'
-known_next order writes targets written kept k {known} {before} {after₀} {before'} {after'} h c =
-    subst (λ (env : Environment). Known env known before' after') (sym (values-next order writes targets written kept k)) (known_carried h c)
+    (order writes targets : List ℕ) (written kept : List ℤ) (k : ℕ) {v v' : KnownValues} →
+    Known (values_below order writes targets written kept k) v →
+    Carried (list_in writes targets written (get_or order k 0)) v v' →
+    Known (values_below order writes targets written kept (suc k)) v'
+known_next order writes targets written kept k {v} {v'} h c =
+    subst (λ (env : Environment). Known env v') (sym (values-next order writes targets written kept k)) (known_carried h c)
 
 -- the writes of the first changes of the order list, one change after the other
 module _ (writes : ℕ → List Entry) (order : List ℕ) (values₀ : List ℤ) where
@@ -51,15 +52,10 @@ module _ (writes : ℕ → List Entry) (order : List ℕ) (values₀ : List ℤ)
   carried-next k e p q = rw (q, e, p, add-one)
 
 -- carried into both lists of known values
-module _ (order writes targets : List ℕ) (written : List ℤ) {before after₀ : List ℤ} where
-  pub below_none : CarriedBelow 0 order writes targets written before after₀ before after₀
+module _ (h : HistoryLists) {v : KnownValues} where
+  pub below_none : CarriedBelow 0 h v v
   below_none =
-      record { right = λ kept known h. subst (λ (env : Environment). Known env known before after₀) (sym (values-first order writes targets written kept)) h }
+      record { right = λ kept q. subst (λ (env : Environment). Known env v) (sym (values-first h.order h.writes h.targets h.written kept)) q }
 
-  pub below-more :
-      (j : ℕ) {place : ℕ} {before₁ after₁ before₂ after₂ : List ℤ} →
-      CarriedBelow j order writes targets written before after₀ before₁ after₁ →
-      place ≡ get_or order j 0 →
-      Carried (list_in writes targets written place) before₁ after₁ before₂ after₂ →
-      CarriedBelow (j + 1) order writes targets written before after₀ before₂ after₂
-  below-more j b p c = record { right = λ kept known h. rw (add-one j) (known_next order writes targets written kept j (b.right kept known h) (rw p at c)) }
+  pub below-more : (j : ℕ) {place : ℕ} {v₁ v₂ : KnownValues} → CarriedBelow j h v v₁ → place ≡ get_or h.order j 0 → Carried (list_in h.writes h.targets h.written place) v₁ v₂ → CarriedBelow (j + 1) h v v₂
+  below-more j b p c = record { right = λ kept q. rw (add-one j) (known_next h.order h.writes h.targets h.written kept j (b.right kept q) (rw p at c)) }

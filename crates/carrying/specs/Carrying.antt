@@ -4,12 +4,14 @@ use Rattle.machine.specs.Settings.{value_in, Entry, carry}
 use Rattle.model.specs.Tables.{slots}
 use Rattle.writers.specs.Writers.{WriteLists, OfSettings}
 use Rattle.search.specs.Searches.{PlacesWithin}
-use Rattle.values.specs.Values.{values_below, Known}
+use Rattle.values.specs.declared.KnownValues.{KnownValues}
+use Rattle.values.specs.Values.{HistoryLists, values_below, Known}
 
--- some writes are carried into both lists
-pub record Carried (writes : List Entry) (before after before' after' : List ℤ) : Type 0 where
-  pub before-is : before' ≡ carry writes before
-  pub after_is : after' ≡ carry writes after
+-- some writes are carried into both lists, and the same values are known
+pub record Carried (writes : List Entry) (v v' : KnownValues) : Type 0 where
+  pub known : v'.known ≡ v.known
+  pub before-is : v'.before ≡ carry writes v.before
+  pub after_is : v'.after ≡ carry writes v.after
 
 -- the changes below a position have their writes in the tables
 pub record Carriable (position : ℕ) (order writes targets : List ℕ) (written : List ℤ) : Type 0 where
@@ -23,5 +25,5 @@ carried_first writes order values zero = values
 carried_first writes order values (suc k) = carry (writes (get_or order k 0)) (carried_first writes order values k)
 
 -- the writes of the changes below a position are carried into both lists: of kept values, those as of the position
-pub record CarriedBelow (position : ℕ) (order writes targets : List ℕ) (written before after before' after' : List ℤ) : Type 0 where
-  pub right : (kept : List ℤ) (known : List ℕ) → Known (value_in kept) known before after → Known (values_below order writes targets written kept position) known before' after'
+pub record CarriedBelow (position : ℕ) (h : HistoryLists) (v v' : KnownValues) : Type 0 where
+  pub right : (kept : List ℤ) → Known (value_in kept) v → Known (values_below h.order h.writes h.targets h.written kept position) v'

@@ -5,8 +5,10 @@ ghost use Rattle.std.specs.Prelude.{◌≡◌, ◌<◌, length, get_or};
 ghost use Rattle.machine.specs.Settings.{carry};
 ghost use Rattle.model.specs.Tables.{slots, list_in};
 ghost use Rattle.writers.specs.Writers.{OfSettings, WriteLists};
+ghost use Rattle.values.specs.Values.{lists_of};
 ghost use Rattle.carrying.specs.Carrying.{Carried, Carriable, carried_first, CarriedBelow};
 
+use values::{History, KnownValues};
 use write_lists::carry;
 
 // The writes of a place carried into some values.
@@ -24,22 +26,28 @@ fn carry_writes(place: usize, writes: &[u16], targets: &[u16], written: &[i32], 
 }
 
 // The writes of a place carried into both lists of values.
-pub fn carry_place(
-    place: usize,
-    writes: &[u16],
-    targets: &[u16],
-    written: &[i32],
-    before: &mut [i32; 1024],
-    after: &mut [i32; 1024],
-)
-    requires { (place < length writes.now)
-        × WriteLists writes.now targets.now written.now
-        × OfSettings (slots 32 place (get_or writes.now place 0) targets.now) }
-    ensures { Carried (list_in writes.now targets.now written.now place)
-        before.old after.old before.new after.new }
+pub fn carry_place(place: usize, history: &History, values: &mut KnownValues)
+    requires { let h = lists_of history.now in
+        (place < length h.writes)
+        × WriteLists h.writes h.targets h.written
+        × OfSettings (slots 32 place (get_or h.writes place 0) h.targets) }
+    ensures { let h = lists_of history.now in
+        Carried (list_in h.writes h.targets h.written place) values.old values.new }
 {
-    carry_writes(place, writes, targets, written, before);
-    carry_writes(place, writes, targets, written, after);
+    carry_writes(
+        place,
+        history.writes,
+        history.targets,
+        history.written,
+        &mut values.before,
+    );
+    carry_writes(
+        place,
+        history.writes,
+        history.targets,
+        history.written,
+        &mut values.after,
+    );
 }
 
 // The writes of the first count changes of the order list carried into some values, one change after the other.
@@ -62,20 +70,11 @@ pub fn carry_first(
 }
 
 // The writes of the changes below a position carried into both lists of values, one change after the other.
-pub fn carry_below(
-    k: usize,
-    order: &[u16],
-    writes: &[u16],
-    targets: &[u16],
-    written: &[i32],
-    before: &mut [i32; 1024],
-    after: &mut [i32; 1024],
-)
-    requires { Carriable k order.now writes.now targets.now written.now }
-    ensures { CarriedBelow k order.now writes.now targets.now written.now
-        before.old after.old before.new after.new }
+pub fn carry_below(k: usize, history: &History, values: &mut KnownValues)
+    requires { let h = lists_of history.now in Carriable k h.order h.writes h.targets h.written }
+    ensures { CarriedBelow k (lists_of history.now) values.old values.new }
 {
-    for place in &order[..k] {
-        carry_place(*place as usize, writes, targets, written, before, after);
+    for place in &history.order[..k] {
+        carry_place(*place as usize, history, values);
     }
 }

@@ -22,6 +22,7 @@ use Rattle.model.specs.Walk.{differs}
 use Rattle.model.proofs.Entries.{holds_named}
 use Rattle.model.proofs.Values.{eq_z-true, eq_z-refl}
 use Rattle.writers.specs.Writers.{OfSettings}
+use Rattle.values.specs.declared.KnownValues.{KnownValues}
 use Rattle.values.specs.Values.{IsKnown, AllKnown, Sizes, Known, Looked}
 use Rattle.values.proofs.Known.{carried-at}
 use Rattle.differences.specs.Differences.{changed_in, Collected, restored}
@@ -30,38 +31,43 @@ use Rattle.differences.proofs.Membership.{holds_at, at-holds, holds-joined, hold
 -- ---- both writes are carried
 
 -- the old writes are in the one list, the new in the other, and the values of all settings that they name are known
-pub record Replacing (old new : Lists) (env : Environment) (known : List ℕ) (before after' : List ℤ) : Type 0 where
-  pub sizes : Sizes known before after'
-  pub before-is : (s : ℕ) → s < setting_count → IsKnown known s → value_in before s ≡ after old.writes env s
-  pub after_is : (s : ℕ) → s < setting_count → IsKnown known s → value_in after' s ≡ after new.writes env s
-  pub old-known : (s : ℕ) → named s old.writes ≡ true → IsKnown known s
-  pub new-known : (s : ℕ) → named s new.writes ≡ true → IsKnown known s
+pub record Replacing (old new : Lists) (env : Environment) (v : KnownValues) : Type 0 where
+  pub sizes : Sizes v
+  pub before-is : (s : ℕ) → s < setting_count → IsKnown v s → value_in v.before s ≡ after old.writes env s
+  pub after_is : (s : ℕ) → s < setting_count → IsKnown v s → value_in v.after s ≡ after new.writes env s
+  pub old-known : (s : ℕ) → named s old.writes ≡ true → IsKnown v s
+  pub new-known : (s : ℕ) → named s new.writes ≡ true → IsKnown v s
 
 -- what was looked up stays known when more is
-pub all-kept : {env : Environment} {earlier known settings : List ℕ} {before after : List ℤ} → AllKnown earlier settings → Looked env earlier known before after → AllKnown known settings
+pub all-kept : {env : Environment} {earlier v : KnownValues} {settings : List ℕ} → AllKnown earlier settings → Looked env earlier v → AllKnown v settings
 all-kept h l = record { each = λ i q. l.kept _ (h.each i q) }
 
+-- where the same values are known
+known-as : {known known' : List Bool} → known' ≡ known → (s : ℕ) → get_or known' s false ≡ true → get_or known s false ≡ true
+known-as e s q = sym (ap (λ (n : List Bool). get_or n s false) e) ∙ q
+
 -- the settings that a list names are known
-names-known : (known : List ℕ) (l : List Entry) → AllKnown known (settings_of l) → (s : ℕ) → named s l ≡ true → IsKnown known s
-names-known known l h s n = at-holds (IsKnown known) (settings_of l) h.each s (holds_named s l ∙ n)
+names-known : (v : KnownValues) (l : List Entry) → AllKnown v (settings_of l) → (s : ℕ) → named s l ≡ true → IsKnown v s
+names-known v l h s n = at-holds (IsKnown v) (settings_of l) h.each s (holds_named s l ∙ n)
 
 pub replacing :
-    (old new : Lists) {env : Environment} {known first second : List ℕ} {before after₀ before' after' : List ℤ} →
-    Known env known before after₀ →
-    AllKnown known first →
+    (old new : Lists) {env : Environment} {v v' : KnownValues} {first second : List ℕ} →
+    Known env v →
+    AllKnown v first →
     first ≡ settings_of old.writes →
-    AllKnown known second →
+    AllKnown v second →
     second ≡ settings_of new.writes →
-    before' ≡ carry old.writes before →
-    after' ≡ carry new.writes after₀ →
-    Replacing old new env known before' after'
-replacing old new {env} {known} {first} {second} {before} {after₀} h f o s n b a =
+    v'.known ≡ v.known →
+    v'.before ≡ carry old.writes v.before →
+    v'.after ≡ carry new.writes v.after →
+    Replacing old new env v'
+replacing old new {env} {v} {v'} h f o s n k b a =
     record {
-      sizes = record { notes = h.sizes.notes; befores = ap length b ∙ length-carry old.writes before ∙ h.sizes.befores; afters = ap length a ∙ length-carry new.writes after₀ ∙ h.sizes.afters };
-      before-is = λ s l q. carried-at env old.writes before b s (omega (arith, h.sizes.befores)) (h.before-is s l q);
-      after_is = λ s l q. carried-at env new.writes after₀ a s (omega (arith, h.sizes.afters)) (h.after_is s l q);
-      old-known = names-known known old.writes (subst (AllKnown known) o f);
-      new-known = names-known known new.writes (subst (AllKnown known) n s);
+      sizes = record { notes = ap length k ∙ h.sizes.notes; befores = ap length b ∙ length-carry old.writes v.before ∙ h.sizes.befores; afters = ap length a ∙ length-carry new.writes v.after ∙ h.sizes.afters };
+      before-is = λ s l q. carried-at env old.writes v.before b s (omega (arith, h.sizes.befores)) (h.before-is s l (known-as k s q));
+      after_is = λ s l q. carried-at env new.writes v.after a s (omega (arith, h.sizes.afters)) (h.after_is s l (known-as k s q));
+      old-known = λ s q. known-as (sym k) s (names-known v old.writes (subst (AllKnown v) o f) s q);
+      new-known = λ x q. known-as (sym k) x (names-known v new.writes (subst (AllKnown v) n s) x q);
     }
 
 -- ---- the settings that are collected
@@ -80,15 +86,15 @@ one_of true b d e = inl refl
 one_of false b d e = inr (both b e).0
 
 -- the settings of two lists, collected one after the other
-module _ {first second : List ℕ} {before after' : List ℤ} {list₀ list₁ list₂ : List ℕ} {count total : ℕ} (f : Collected first before after' 0 list₀ count list₁) (g : Collected second before after' count list₁ total list₂) where
-  collected-is : take total list₂ ≡ changed_in before after' first ++ changed_in before after' second
-  collected-is = g.these ∙ ap (λ l. l ++ changed_in before after' second) f.these
+module _ (v : KnownValues) {first second : List ℕ} {list₀ list₁ list₂ : List ℕ} {count total : ℕ} (f : Collected first v.before v.after 0 list₀ count list₁) (g : Collected second v.before v.after count list₁ total list₂) where
+  collected-is : take total list₂ ≡ changed_in v.before v.after first ++ changed_in v.before v.after second
+  collected-is = g.these ∙ ap (λ l. l ++ changed_in v.before v.after second) f.these
 
-  collected-holds : (x : ℕ) → let d = not (eq_z (value_in before x) (value_in after' x)) in holds x (take total list₂) ≡ ((holds x first || holds x second) && d)
+  collected-holds : (x : ℕ) → let d = not (eq_z (value_in v.before x) (value_in v.after x)) in holds x (take total list₂) ≡ ((holds x first || holds x second) && d)
   collected-holds x =
       ap (holds x) collected-is
-      ∙ holds-joined x (changed_in before after' first) (changed_in before after' second)
-      ∙ ap₂ (λ a b. a || b) (holds-changed before after' x first) (holds-changed before after' x second)
+      ∙ holds-joined x (changed_in v.before v.after first) (changed_in v.before v.after second)
+      ∙ ap₂ (λ a b. a || b) (holds-changed v.before v.after x first) (holds-changed v.before v.after x second)
       ∙ sym (and-or_distrib_right (holds x first) (holds x second) _)
 
   -- they are settings
@@ -96,7 +102,7 @@ module _ {first second : List ℕ} {before after' : List ℤ} {list₀ list₁ l
   collected-settings a b =
       record { below = λ i h. let x = get_or (take total list₂) i 0 in ⊎_elim (at-holds (λ s. s < setting_count) first a.below x) (at-holds (λ s. s < setting_count) second b.below x) (one_of (holds x first) (holds x second) _ (sym (collected-holds x) ∙ holds_at (take total list₂) i h)) }
 
-  module _ {old new : Lists} {env : Environment} {known : List ℕ} (r : Replacing old new env known before after') (o : first ≡ settings_of old.writes) (n : second ≡ settings_of new.writes) where
+  module _ {old new : Lists} {env : Environment} (r : Replacing old new env v) (o : first ≡ settings_of old.writes) (n : second ≡ settings_of new.writes) where
     -- they are those at which the old and the new writes give different values
     pub collected-differs : (x : ℕ) → x < setting_count → holds x (take total list₂) ≡ differs old new env x
     collected-differs x l =
@@ -105,9 +111,9 @@ module _ {first second : List ℕ} {before after' : List ℤ} {list₀ list₁ l
         ∙ go (named x old.writes) refl (named x new.writes) refl
       where
         d : Bool
-        d = not (eq_z (value_in before x) (value_in after' x))
+        d = not (eq_z (value_in v.before x) (value_in v.after x))
 
-        right : IsKnown known x → d ≡ differs old new env x
+        right : IsKnown v x → d ≡ differs old new env x
         right q = ap₂ (λ u v. not (eq_z u v)) (r.before-is x l q) (r.after_is x l q)
 
         go : (a : Bool) → named x old.writes ≡ a → (b : Bool) → named x new.writes ≡ b → ((a || b) && d) ≡ differs old new env x
@@ -116,7 +122,7 @@ module _ {first second : List ℕ} {before after' : List ℤ} {list₀ list₁ l
         go false p false q = sym (ap₂ (λ u v. not (eq_z u v)) (unnamed old.writes env x p) (unnamed new.writes env x q) ∙ ap not (eq_z-refl (env x)))
 
     -- the value after of one that is collected is the new one
-    pub collected-new : (x : ℕ) → x < setting_count → holds x (take total list₂) ≡ true → value_in after' x ≡ after new.writes env x
+    pub collected-new : (x : ℕ) → x < setting_count → holds x (take total list₂) ≡ true → value_in v.after x ≡ after new.writes env x
     collected-new x l h =
         r.after_is x l
         (⊎_elim (λ p. r.old-known x (sym (ap (holds x) o ∙ holds_named x old.writes) ∙ p)) (λ q. r.new-known x (sym (ap (holds x) n ∙ holds_named x new.writes) ∙ q)) (one_of (holds x first) (holds x second) _ (sym (collected-holds x) ∙ h)))
@@ -142,20 +148,22 @@ restored_at (s ∷ settings) after before x l e = restored_at settings after (se
 
 -- with those that differ restored, the values are known as they are after the new writes
 pub restored-known :
-    {old new : Lists} {env : Environment} {known : List ℕ} {before before' after' : List ℤ} (settings : List ℕ) →
-    Replacing old new env known before after' →
+    {old new : Lists} {env : Environment} {v v' : KnownValues} (settings : List ℕ) →
+    Replacing old new env v →
     ((x : ℕ) → x < setting_count → holds x settings ≡ differs old new env x) →
-    before' ≡ restored settings after' before →
-    Known (after new.writes env) known before' after'
-restored-known {old} {new} {env} {known} {before} {before'} {after'} settings r h e =
+    v'.known ≡ v.known →
+    v'.before ≡ restored settings v.after v.before →
+    v'.after ≡ v.after →
+    Known (after new.writes env) v'
+restored-known {old} {new} {env} {v} {v'} settings r h k b a =
     record {
-      sizes = record { notes = r.sizes.notes; befores = ap length e ∙ length-restored settings after' before ∙ r.sizes.befores; afters = r.sizes.afters };
-      before-is = λ s l q. ap (λ (v : List ℤ). value_in v s) e ∙ restored_at settings after' before s (omega (arith, r.sizes.befores)) (λ n. same s l q (sym (h s l) ∙ n)) ∙ r.after_is s l q;
-      after_is = r.after_is;
+      sizes = record { notes = ap length k ∙ r.sizes.notes; befores = ap length b ∙ length-restored settings v.after v.before ∙ r.sizes.befores; afters = ap length a ∙ r.sizes.afters };
+      before-is = λ s l q. let q' = known-as k s q in ap (λ (l : List ℤ). value_in l s) b ∙ restored_at settings v.after v.before s (omega (arith, r.sizes.befores)) (λ n. same s l q' (sym (h s l) ∙ n)) ∙ r.after_is s l q';
+      after_is = λ s l q. ap (λ (l : List ℤ). value_in l s) a ∙ r.after_is s l (known-as k s q);
     }
   where
     equal : (u v : ℤ) → not (eq_z u v) ≡ false → u ≡ v
     equal u v e = eq_z-true u v (not-false (eq_z u v) e)
 
-    same : (s : ℕ) → s < setting_count → IsKnown known s → differs old new env s ≡ false → value_in before s ≡ value_in after' s
+    same : (s : ℕ) → s < setting_count → IsKnown v s → differs old new env s ≡ false → value_in v.before s ≡ value_in v.after s
     same s l q e = r.before-is s l q ∙ equal _ _ e ∙ sym (r.after_is s l q)

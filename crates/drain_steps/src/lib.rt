@@ -10,6 +10,8 @@ ghost use Rattle.drain_steps.specs.Passed.{Passed};
 use carrying::carry_place;
 use model::Turn;
 use turns::turn_at;
+use uses::SettingUses;
+use values::{History, KnownValues};
 
 // A drain's step: the change at position k is passed over where it is Valid, and has its turn where it is not.
 pub fn pass_at(
@@ -30,18 +32,14 @@ pub fn pass_at(
     view: &mut [i32],
     versions: &[u16],
     kept: &[i32],
-    before: &mut [i32; 1024],
-    after: &mut [i32; 1024],
-    known: &mut [u8; 1024],
-    readers: &mut [u16; 1024],
-    writers: &mut [u16; 1024],
-    settled: &mut [u16; 1024],
+    values: &mut KnownValues,
+    uses: &mut SettingUses,
 ) -> Turn
     requires { (k < count)
         × WithSome (λ T. Going k
         (with_lent T count timestamps.now order.now status.old withdrawn.now lengths.now programs.now reads.old
         writes.old sources.old seen.old targets.old written.old view.old versions.now kept.now)
-        known.old before.old after.old readers.old writers.old settled.old) }
+        values.old uses.old) }
     ensures { (T : Tables) →
         let L =
         with_lent T count timestamps.now order.now status.old withdrawn.now
@@ -50,20 +48,25 @@ pub fn pass_at(
         let U =
         with_turn L status.new reads.new writes.new sources.new seen.new
         targets.new written.new view.new in
-        Going k L known.old before.old after.old readers.old writers.old
-        settled.old →
+        Going k L values.old uses.old →
         Passed (as_turn result) L U
-        × Going (k + 1) U known.new before.new after.new readers.new writers.new
-        settled.new }
+        × Going (k + 1) U values.new uses.new }
 {
     let place = order[k] as usize;
-    if status[place] == 1 {
-        carry_place(place, writes, targets, written, before, after);
+    let valid = status[place] == 1;
+    if valid {
+        let history = History {
+            order,
+            writes,
+            targets,
+            written,
+            kept,
+        };
+        carry_place(place, &history, values);
         return Turn::Idle;
     }
     turn_at(
         true, k, count, timestamps, order, status, withdrawn, lengths, programs, reads, writes,
-        sources, seen, targets, written, view, versions, kept, before, after, known, readers,
-        writers, settled,
+        sources, seen, targets, written, view, versions, kept, values, uses,
     )
 }

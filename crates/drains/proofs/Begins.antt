@@ -16,10 +16,12 @@ use Rattle.search.specs.Searches.{is_waiting, waiting_in}
 use Rattle.search.proofs.First.{first_some}
 use Rattle.writers.proofs.Model.{tested-settings, placed-writes, listed}
 use Rattle.carrying.specs.Carrying.{Carriable, CarriedBelow}
-use Rattle.values.proofs.Known.{known_kept}
+use Rattle.machine.specs.Settings.{value_in}
+use Rattle.values.specs.declared.KnownValues.{KnownValues}
+use Rattle.values.specs.Values.{history_lists, Known}
 use Rattle.uses.specs.Columns.{columns_of, Walkable}
-use Rattle.uses.specs.Uses.{Numbers, LastUses}
-use Rattle.uses.proofs.LastUses.{numbers-new}
+use Rattle.uses.specs.declared.SettingUses.{SettingUses}
+use Rattle.uses.specs.Uses.{NoneNoted, LastUses}
 use Rattle.marking_laws.proofs.Model.{walkable-form, uses-first, uses-passed}
 use Rattle.turns.specs.Turns.{Going}
 use Rattle.passing.specs.Drained.{drained}
@@ -46,22 +48,22 @@ module _ {T : Tables} {first : ℕ} (g : Formed (length T.order) T) (w : waiting
         settings = λ j h. tested-settings _ ((facts g).form.writes (get_or T.order j 0) ((facts g).form.places j (omega (arith, within)))).distinct;
       }
 
-  -- and `last_uses`
-  pub uses-above : (first ≤ held_count T) × (held_count T ≤ 4096) × (held_count T ≤ length T.order) × Walkable (columns_of T) (length T.status) × Numbers (replicate 1024 0) (λ s. 0) × Numbers (replicate 1024 0) (λ s. 0)
-  uses-above = (omega (arith, within), omega (arith, (facts g).form.small, (facts g).sizes.capacity), omega (arith, (facts g).form.small), walkable-form g, numbers-new, numbers-new)
+  -- and `note_last`
+  pub uses-above : {u : SettingUses} → NoneNoted u → (first ≤ held_count T) × (held_count T ≤ 4096) × (held_count T ≤ length T.order) × Walkable (columns_of T) (length T.status) × NoneNoted u
+  uses-above z = (omega (arith, within), omega (arith, (facts g).form.small, (facts g).sizes.capacity), omega (arith, (facts g).form.small), walkable-form g, z)
 
   -- what is known before its turn
   pub going-first :
-      {before after before' after' : List ℤ} {readers writers : List ℕ} →
-      before ≡ T.kept →
-      after ≡ T.kept →
-      CarriedBelow first T.order T.writes T.targets T.written before after before' after' →
-      LastUses first (held_count T) (columns_of T) T.status readers writers →
-      Going first T (replicate 1024 1) before' after' readers writers (replicate 1024 0)
-  going-first b a c u =
+      {v v' : KnownValues} {u u' : SettingUses} →
+      Known (value_in T.kept) v →
+      CarriedBelow first (history_lists T.order T.writes T.targets T.written T.kept) v v' →
+      NoneNoted u →
+      LastUses first (held_count T) (columns_of T) T.status u'.readers u'.writers × (u'.settled ≡ u.settled) →
+      Going first T v' u'
+  going-first q c z n =
       record {
         formed = g;
         passed = (first_some waits (held_count T) first w).2;
-        values = c.right T.kept (replicate 1024 1) (known_kept (facts g).sizes.kept b a);
-        uses = uses-passed (first + 1) (omega arith) (uses-first u numbers-new);
+        values = c.right T.kept q;
+        uses = uses-passed (first + 1) (omega arith) (uses-first n.0 z n.1);
       }

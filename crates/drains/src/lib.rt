@@ -12,10 +12,10 @@ ghost use Rattle.turns.specs.Turns.{with_lent, WithSome};
 ghost use Rattle.passing.specs.Drained.{drained};
 
 use carrying::carry_below;
-use fresh::fill_from;
 use passing::pass_from;
 use search::waiting;
-use uses::last_uses;
+use uses::{Columns, SettingUses};
+use values::{History, KnownValues};
 
 // The turns of a drain from its first on, which is that of the change at a position, each counted in totals that are 0 before. All values are known from the start, and how far each
 // setting matters is noted once.
@@ -56,35 +56,24 @@ fn turn_from(
         targets.new written.new view.new)
         ≡ drained L }
 {
-    let mut before = [0i32; 1024];
-    let mut after = [0i32; 1024];
-    let mut known = [1u8; 1024];
-    let mut readers = [0u16; 1024];
-    let mut writers = [0u16; 1024];
-    let mut settled = [0u16; 1024];
-    fill_from(kept, &mut before);
-    fill_from(kept, &mut after);
-    carry_below(
-        first,
+    let history = History {
         order,
         writes,
         targets,
         written,
-        &mut before,
-        &mut after,
-    );
-    last_uses(
-        first,
-        count,
+        kept,
+    };
+    let columns = Columns {
         order,
-        status,
         reads,
         sources,
         writes,
         targets,
-        &mut readers,
-        &mut writers,
-    );
+    };
+    let mut values = KnownValues::all(kept);
+    carry_below(first, &history, &mut values);
+    let mut uses = SettingUses::none();
+    uses.note_last(first, count, &columns, status);
     pass_from(
         first,
         count,
@@ -103,12 +92,8 @@ fn turn_from(
         view,
         versions,
         kept,
-        &mut before,
-        &mut after,
-        &mut known,
-        &mut readers,
-        &mut writers,
-        &mut settled,
+        &mut values,
+        &mut uses,
         totals,
     )
 }

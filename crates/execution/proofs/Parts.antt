@@ -10,7 +10,8 @@ use Rattle.machine.specs.Instruction.{code}
 use Rattle.machine.specs.Form.{all_well_formed}
 use Rattle.machine.specs.Run.{run}
 use Rattle.run_record.specs.declared.Run.{Run}
-use Rattle.run_record.specs.Record.{Lists, Ran}
+use Rattle.run_record.specs.declared.Lists.{Lists}
+use Rattle.run_record.specs.Record.{Ran}
 use Rattle.model.specs.Tables.{program_in}
 use Rattle.general.proofs.Parts.{part, used-part}
 use Rattle.values.proofs.Parts.{part_length}

@@ -3,7 +3,8 @@ use Rattle.std.specs.Prelude.{◌≡◌, true, List, ℕ, ◌*◌, ◌≤◌, le
 use Rattle.machine.specs.Form.{all_well_formed}
 use Rattle.machine.specs.Run.{Outcome}
 use Rattle.run_record.specs.declared.Run.{Run}
-use Rattle.run_record.specs.Record.{Lists, Sized, Ran}
+use Rattle.run_record.specs.declared.Lists.{Lists}
+use Rattle.run_record.specs.Record.{Ran}
 use Rattle.model.specs.Tables.{program_in}
 use Rattle.acts.specs.declared.Act.{Act}
 use Rattle.acts.specs.declared.Act.TheVariants as act
@@ -18,6 +19,5 @@ pub record Runnable (k : ℕ) (order lengths programs : List ℕ) : Type 0 where
 
 -- the record and the arrays of new lists: none where the change is cleared, and those of its run where it runs
 pub record Made (a : Act) (r : Run) (l : Lists) (o : Outcome) : Type 0 where
-  pub sized : Sized l
   pub cleared : a ≡ act.Clear → (r.reads ≡ 0) × (r.writes ≡ 0)
   pub ran : a ≡ act.Run → Ran r l o

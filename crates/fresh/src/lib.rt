@@ -45,11 +45,9 @@ pub fn apply(version: u16, program: &[u8], values: &mut [i32])
 {
     let mut lists = Lists::new();
     let run = run_program(version, program, values, &mut lists);
-    carry(
-        &lists.targets[..run.writes],
-        &lists.written[..run.writes],
-        values,
-    );
+    let targets: &[u16] = &lists.targets;
+    let written: &[i32] = &lists.written;
+    carry(&targets[..run.writes], &written[..run.writes], values);
 }
 
 // The first count changes of the order list run on some values, one after the other, withdrawn ones passed over.

@@ -12,7 +12,8 @@ use lib.Seq.{drop-cons, get_or-set_same, get_or-set_other}
 use Rattle.machine.specs.Settings.{setting_count}
 use Rattle.uses.specs.Columns.{Columns, writes_setting, Walkable}
 use Rattle.marking.specs.Marks.{marked_from, end_from, marked_settings}
-use Rattle.uses.specs.Uses.{reads_valid, Settled, Markable}
+use Rattle.uses.specs.declared.SettingUses.{SettingUses}
+use Rattle.uses.specs.Uses.{reads_valid, Settled, Markable, Marked}
 use Rattle.uses.proofs.LastUses.{fewer-read}
 use Rattle.marking.proofs.Walks.{walk-valid, walk-length, walk_same, walk-closed, end-within, end-ends, end-unread}
 
@@ -39,11 +40,8 @@ module _ {from : ℕ} {C : Columns} {status readers settled : List ℕ} (m : Set
       (m.ends s h q))
 
   -- it is walked for, and is settled then
-  module _ {stop : ℕ} (same : stop ≡ to) (q : from < stop) {status' : List ℕ} {r : ℕ} (walked : (status' ≡ marked_from C s from (stop - from) status) × (r ≡ end_from C s from (stop - from))) where
-    e : (status' ≡ marked_from C s from (to - from) status) × (r ≡ end_from C s from (to - from))
-    e = rw same at walked
-
-    pub end_below : r ≤ stop
+  module _ (q : from < to) {status' : List ℕ} {r : ℕ} (e : (status' ≡ marked_from C s from (to - from) status) × (r ≡ end_from C s from (to - from))) where
+    pub end_below : r ≤ to
     end_below = omega (arith, e.1, end-within C s from (to - from))
 
     still : (t p : ℕ) → reads_valid C status' t p ≡ true → reads_valid C status t p ≡ true
@@ -85,26 +83,29 @@ module _ {from : ℕ} {C : Columns} {status readers settled : List ℕ} (m : Set
 -- ---- one setting after the other
 
 -- marking the settings from index i on is marking them all
-pub record Marked (C : Columns) (readers : List ℕ) (from : ℕ) (changed status₀ : List ℕ) (i : ℕ) (status settled : List ℕ) : Type 0 where
-  pub within : i ≤ length changed
+pub record MarkedTo (C : Columns) (from : ℕ) (changed status₀ : List ℕ) (u₀ : SettingUses) (i : ℕ) (status : List ℕ) (u : SettingUses) : Type 0 where
   pub long : length status ≡ length status₀
-  pub marks : marked_settings C readers from (drop i changed) status ≡ marked_settings C readers from changed status₀
-  pub settled-to : Settled from C status readers settled
+  pub marks : marked_settings C u₀.readers from (drop i changed) status ≡ marked_settings C u₀.readers from changed status₀
+  pub marked : Marked from C status u₀ u
 
-module _ {C : Columns} {readers : List ℕ} {from : ℕ} {changed status₀ : List ℕ} {i : ℕ} {status settled : List ℕ} (w : Marked C readers from changed status₀ i status settled) where
-  pub markable-again : {settled₀ : List ℕ} → Markable from C status₀ readers settled₀ → Markable from C status readers settled
-  markable-again m = record { walkable = subst (Walkable C) (sym w.long) m.walkable; within = m.within; settled-to = w.settled-to }
+module _ {C : Columns} {from : ℕ} {changed status₀ : List ℕ} {u₀ : SettingUses} {i : ℕ} {status : List ℕ} {u : SettingUses} (w : MarkedTo C from changed status₀ u₀ i status u) where
+  pub markable-again : Markable from C status₀ u₀ → Markable from C status u
+  markable-again m =
+      record {
+        walkable = subst (Walkable C) (sym w.long) m.walkable;
+        within = λ s h. rw w.marked.readers (m.within s h);
+        settled-to = w.marked.settled-to;
+      }
 
-  pub marked_next : {status' settled' : List ℕ} → i < length changed → (status' ≡ marked_from C (get_or changed i 0) from (get_or readers (get_or changed i 0) 0 - from) status) × Settled from C status' readers settled' → Marked C readers from changed status₀ (i + 1) status' settled'
+  pub marked_next : {status' : List ℕ} {u' : SettingUses} → i < length changed → (status' ≡ marked_from C (get_or changed i 0) from (get_or u.readers (get_or changed i 0) 0 - from) status) × Marked from C status' u u' → MarkedTo C from changed status₀ u₀ (i + 1) status' u'
   unfolding marked_settings
   marked_next h e =
       record {
-        within = omega arith;
         long = ap length e.0 ∙ walk-length C _ from _ status ∙ w.long;
-        marks = rw (e.0, add-one) (rw (drop-cons changed i 0 h) at w.marks);
-        settled-to = e.1;
+        marks = rw (e.0, w.marked.readers, add-one) (rw (drop-cons changed i 0 h) at w.marks);
+        marked = record { readers = e.1.readers ∙ w.marked.readers; writers = e.1.writers ∙ w.marked.writers; settled-to = e.1.settled-to };
       }
 
-  pub marked-end : length changed ≤ i → (status ≡ marked_settings C readers from changed status₀) × Settled from C status readers settled
+  pub marked-end : length changed ≤ i → (status ≡ marked_settings C u₀.readers from changed status₀) × Marked from C status u₀ u
   unfolding marked_settings
-  marked-end h = (rw (drop_of_length-le changed {i = i} h) at w.marks, w.settled-to)
+  marked-end h = (rw (drop_of_length-le changed {i = i} h) at w.marks, w.marked)

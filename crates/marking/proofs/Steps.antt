@@ -48,49 +48,35 @@ module _ (s place : ℕ) (counts sources status : List ℕ) where
 
 -- ---- along the order list
 
--- from position p up to end the definitions give what they give of the whole walk
-pub record Walked (C : Columns) (s from to : ℕ) (status₀ status : List ℕ) (p end : ℕ) : Type 0 where
-  pub within : p ≤ end
-  pub below : end ≤ to
+-- from position p up to the last the definitions give what they give of the whole walk
+pub record Walked (C : Columns) (s from to : ℕ) (status₀ status : List ℕ) (p : ℕ) : Type 0 where
   pub long : length status ≡ length status₀
-  pub marks : marked_from C s p (end - p) status ≡ marked_from C s from (to - from) status₀
-  pub ended : end_from C s p (end - p) ≡ end_from C s from (to - from)
+  pub marks : marked_from C s p (to - p) status ≡ marked_from C s from (to - from) status₀
+  pub ended : end_from C s p (to - p) ≡ end_from C s from (to - from)
 
-module _ {C : Columns} {s from to : ℕ} {status₀ status : List ℕ} {p end : ℕ} (w : Walked C s from to status₀ status p end) where
-  module _ {r : Bool} {status' : List ℕ} (h : p < end) (e : (r ≡ writes_setting C s p) × (status' ≡ marked_place s C.reads C.sources (get_or C.order p 0) status)) where
-    one_more : end - p ≡ suc (end - suc p)
+module _ {C : Columns} {s from to : ℕ} {status₀ status : List ℕ} {p : ℕ} (w : Walked C s from to status₀ status p) where
+  module _ {r : Bool} {status' : List ℕ} (h : p < to) (e : (r ≡ writes_setting C s p) × (status' ≡ marked_place s C.reads C.sources (get_or C.order p 0) status)) where
+    one_more : to - p ≡ suc (to - suc p)
     one_more = omega arith
 
-    long' : length status' ≡ length status₀
-    long' = ap length e.1 ∙ place-length C s status p ∙ w.long
-
     -- a change that writes the setting
-    pub walked-last : r ≡ true → Walked C s from to status₀ status' (p + 1) (p + 1)
+    pub walked-last : r ≡ true → (status' ≡ marked_from C s from (to - from) status₀) × (p + 1 ≡ end_from C s from (to - from))
     unfolding marked_from end_from
     walked-last q =
-        let none : p + 1 - (p + 1) ≡ 0 = omega arith in
         let w' : writes_setting C s p ≡ true = sym e.0 ∙ q in
-        record {
-          within = omega arith;
-          below = omega (arith, w.below);
-          long = long';
-          marks = rw none (e.1 ∙ (rw (one_more, w') at w.marks));
-          ended = rw (none, add-one) (rw (one_more, w') at w.ended);
-        }
+        (e.1 ∙ (rw (one_more, w') at w.marks), rw add-one (rw (one_more, w') at w.ended))
 
     -- one that does not
-    pub walked_next : r ≡ false → Walked C s from to status₀ status' (p + 1) end
+    pub walked_next : r ≡ false → Walked C s from to status₀ status' (p + 1)
     unfolding marked_from end_from
     walked_next q =
         let w' : writes_setting C s p ≡ false = sym e.0 ∙ q in
         record {
-          within = omega arith;
-          below = w.below;
-          long = long';
+          long = ap length e.1 ∙ place-length C s status p ∙ w.long;
           marks = rw (e.1, add-one) (rw (one_more, w') at w.marks);
           ended = rw add-one (rw (one_more, w') at w.ended);
         }
 
-  pub walked_end : end ≤ p → (status ≡ marked_from C s from (to - from) status₀) × (p ≡ end_from C s from (to - from))
+  pub walked_end : to ≤ p → (status ≡ marked_from C s from (to - from) status₀) × (p ≡ end_from C s from (to - from))
   unfolding marked_from end_from
-  walked_end h = let none : end - p ≡ 0 = omega arith in (rw none at w.marks, rw none at w.ended)
+  walked_end h = let none : to - p ≡ 0 = omega arith in (rw none at w.marks, rw none at w.ended)

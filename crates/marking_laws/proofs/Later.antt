@@ -19,7 +19,8 @@ use Rattle.model.specs.Sound.{Sound}
 use Rattle.model.proofs.Tables.{held-count}
 use Rattle.uses.specs.Columns.{Columns, columns_of, reads_setting, writes_setting}
 use Rattle.marking.specs.Marks.{marked_settings}
-use Rattle.uses.specs.Uses.{reads_valid, Settled, Uses}
+use Rattle.uses.specs.declared.SettingUses.{SettingUses}
+use Rattle.uses.specs.Uses.{reads_valid, Uses, Marked}
 use Rattle.marking.proofs.Walks.{walk-valid}
 use Rattle.uses.proofs.LastUses.{readers-fewer}
 use Rattle.marking_laws.proofs.Positions.{status-position, reads-position, writes-position}
@@ -34,13 +35,13 @@ pub record LaterKept (from : ℕ) (T U : Tables) : Type 0 where
 
 -- ---- from one position to a later one
 
-module _ {from from' : ℕ} {T U : Tables} {readers writers settled : List ℕ} (k : LaterKept from' T U) (l : from ≤ from') (u : Uses from T readers writers settled) where
+module _ {from from' : ℕ} {T U : Tables} {v : SettingUses} (k : LaterKept from' T U) (l : from ≤ from') (u : Uses from T v) where
   still : (s p : ℕ) → from' ≤ p → p < held_count T → reads_valid (columns_of U) U.status s p ≡ true → reads_valid (columns_of T) T.status s p ≡ true
   still s p a b v =
       let r = both (eqb (get_or U.status (get_or U.order p 0) 0) 1) v in
       rw (k.valid p a b (eqb-true (get_or U.status (get_or U.order p 0) 0) 1 r.0), sym (k.read p a b s) ∙ r.1)
 
-  pub uses-later : Uses from' U readers writers settled
+  pub uses-later : Uses from' U v
   uses-later =
       let r = u.readers-end in
       let w = u.writers-end in
@@ -50,23 +51,23 @@ module _ {from from' : ℕ} {T U : Tables} {readers writers settled : List ℕ} 
             record {
               sized = r.sized;
               within = λ s h. omega (arith, r.within s h, k.held);
-              bound = λ s p h a b v. let b' : p < held_count T = omega (arith, b, k.held) in r.bound s p h (omega (arith, a, l)) b' (still s p a b' v);
+              bound = λ s p h a b e. let b' : p < held_count T = omega (arith, b, k.held) in r.bound s p h (omega (arith, a, l)) b' (still s p a b' e);
             };
         writers-end =
             record {
               sized = w.sized;
               within = λ s h. omega (arith, w.within s h, k.held);
-              bound = λ s p h a b v. let b' : p < held_count T = omega (arith, b, k.held) in w.bound s p h (omega (arith, a, l)) b' (sym (k.wrote p a b' s) ∙ v);
-              last = λ s h a. k.wrote (get_or writers s 0 - 1) (omega (arith, a)) (omega (arith, a, w.within s h)) s ∙ w.last s h (omega (arith, a, l));
+              bound = λ s p h a b e. let b' : p < held_count T = omega (arith, b, k.held) in w.bound s p h (omega (arith, a, l)) b' (sym (k.wrote p a b' s) ∙ e);
+              last = λ s h a. k.wrote (get_or v.writers s 0 - 1) (omega (arith, a)) (omega (arith, a, w.within s h)) s ∙ w.last s h (omega (arith, a, l));
             };
         settled-to =
             record {
               sized = d.sized;
               within = d.within;
-              unread = λ s p h a b v. d.unread s p h (omega (arith, a, l)) b (still s p a (omega (arith, b, d.within s h, r.within s h)) v);
+              unread = λ s p h a b e. d.unread s p h (omega (arith, a, l)) b (still s p a (omega (arith, b, d.within s h, r.within s h)) e);
               ends =
                   λ s h a.
-                  ⊎_elim (λ v. inl (k.wrote (get_or settled s 0 - 1) (omega (arith, a)) (omega (arith, a, d.within s h, r.within s h)) s ∙ v)) inr (d.ends s h (omega (arith, a, l)));
+                  ⊎_elim (λ e. inl (k.wrote (get_or v.settled s 0 - 1) (omega (arith, a)) (omega (arith, a, d.within s h, r.within s h)) s ∙ e)) inr (d.ends s h (omega (arith, a, l)));
             };
       }
 
@@ -133,10 +134,10 @@ settings-valid C readers from [] status i v = v
 settings-valid C readers from (s ∷ changed) status i v = walk-valid C s from (get_or readers s 0 - from) status i (settings-valid C readers from changed _ i v)
 
 -- marking some settings keeps what is known, where it tells what is settled then
-pub uses-marked : {from : ℕ} {T : Tables} {readers writers settled settled' status : List ℕ} (changed : List ℕ) → Uses from T readers writers settled → status ≡ marked_settings (columns_of T) readers from changed T.status → Settled from (columns_of T) status readers settled' → Uses from (with_status T status) readers writers settled'
-uses-marked {from} {T} {readers} changed u e d =
+pub uses-marked : {from : ℕ} {T : Tables} {v v' : SettingUses} {status : List ℕ} (changed : List ℕ) → Uses from T v → status ≡ marked_settings (columns_of T) v.readers from changed T.status → Marked from (columns_of T) status v v' → Uses from (with_status T status) v'
+uses-marked {from} {T} {v} {v'} {status} changed u e d =
     record {
-      readers-end = readers-fewer u.readers-end _ (λ i v. settings-valid (columns_of T) readers from changed T.status i (rw e at v));
-      writers-end = u.writers-end;
-      settled-to = d;
+      readers-end = rw d.readers (readers-fewer u.readers-end _ (λ i r. settings-valid (columns_of T) v.readers from changed T.status i (rw e at r)));
+      writers-end = rw d.writers u.writers-end;
+      settled-to = d.settled-to;
     }

@@ -31,7 +31,8 @@ use Rattle.search.proofs.Model.{history_in, held-changes, history-length, place_
 use Rattle.uses.specs.Columns.{columns_of, list_at, writes_setting, EmptyBehind, Walkable}
 use Rattle.view_updates.specs.View.{followed}
 use Rattle.marking.specs.Marks.{marked_settings}
-use Rattle.uses.specs.Uses.{Numbers, LastUses, ReadersEnd, WritersEnd, Settled, Uses, Noted, Notable, UsesNoted, Markable}
+use Rattle.uses.specs.declared.SettingUses.{SettingUses}
+use Rattle.uses.specs.Uses.{Numbers, LastUses, ReadersEnd, WritersEnd, Uses, NoneNoted, Noted, Notable, UsesNoted, Markable, Marked}
 use Rattle.uses.proofs.LastUses.{readers-end, writers-end, settled-none}
 use Rattle.marking_laws.proofs.LiveSets.{writes_one, written_in, live-unwritten, written-some, written_none, Agree, mark-agrees}
 use Rattle.marking_laws.proofs.Restated.{with_status}
@@ -118,7 +119,7 @@ module _ {n : ℕ} {T : Tables} (g : Formed n T) where
       }
 
   -- for `note_uses`
-  pub notable : {noted : Bool} {from : ℕ} {readers writers settled : List ℕ} → from ≤ held_count T → Noted noted from T readers writers settled → Notable noted from (held_count T) (columns_of T) (length T.status) readers writers
+  pub notable : {noted : Bool} {from : ℕ} {v : SettingUses} → from ≤ held_count T → Noted noted from T v → Notable noted from (held_count T) (columns_of T) (length T.status) v
   notable h d =
       let l = (facts g).sizes in
       record {
@@ -126,11 +127,11 @@ module _ {n : ℕ} {T : Tables} (g : Formed n T) where
         small = omega (arith, (facts g).form.small, l.capacity);
         listed = omega (arith, (facts g).form.small, l.order);
         walkable = walkable-form;
-        none = λ e. let z = d.none e in (z.0, z.1);
+        none = d.none;
       }
 
   -- for `mark_settings`
-  pub markable : {from : ℕ} {readers writers settled : List ℕ} → Uses from T readers writers settled → Markable from (columns_of T) T.status readers settled
+  pub markable : {from : ℕ} {v : SettingUses} → Uses from T v → Markable from (columns_of T) T.status v
   markable u =
       record {
         walkable = walkable-form;
@@ -140,21 +141,21 @@ module _ {n : ℕ} {T : Tables} (g : Formed n T) where
 
 -- ---- up the order list
 
--- after `last_uses`, with nothing settled
-pub uses-first : {from : ℕ} {T : Tables} {readers writers settled : List ℕ} → LastUses from (held_count T) (columns_of T) T.status readers writers → Numbers settled (λ s. 0) → Uses from T readers writers settled
-uses-first u d = record { readers-end = readers-end u; writers-end = writers-end u; settled-to = settled-none d }
+-- after `note_last`, where nothing was noted
+pub uses-first : {from : ℕ} {T : Tables} {v v' : SettingUses} → LastUses from (held_count T) (columns_of T) T.status v'.readers v'.writers → NoneNoted v → v'.settled ≡ v.settled → Uses from T v'
+uses-first {v = v} {v'} u d e = record { readers-end = readers-end u; writers-end = writers-end u; settled-to = settled-none (subst (λ (l : List ℕ). Numbers l (λ s. 0)) (sym e) d.settled) }
 
--- after `note_uses`
-pub uses-noted : {noted : Bool} {from : ℕ} {T : Tables} {readers writers settled readers' writers' : List ℕ} → Noted noted from T readers writers settled → UsesNoted noted from (held_count T) (columns_of T) T.status readers writers readers' writers' → Uses from T readers' writers' settled
-uses-noted {noted = true} d e = let k = e.kept refl in rw (k.0, k.1) (d.uses refl)
-uses-noted {noted = false} d e = uses-first (e.first refl) (d.none refl).2
+-- after `note`
+pub uses-noted : {noted : Bool} {from : ℕ} {T : Tables} {v v' : SettingUses} → Noted noted from T v → UsesNoted noted from (held_count T) (columns_of T) T.status v v' → Uses from T v'
+uses-noted {noted = true} d e = rw (e.kept refl) (d.uses refl)
+uses-noted {noted = false} d e = uses-first (e.first refl) (d.none refl) e.settled
 
 -- changes passed over
-pub uses-passed : {from : ℕ} (from' : ℕ) {T : Tables} {readers writers settled : List ℕ} → from ≤ from' → Uses from T readers writers settled → Uses from' T readers writers settled
+pub uses-passed : {from : ℕ} (from' : ℕ) {T : Tables} {v : SettingUses} → from ≤ from' → Uses from T v → Uses from' T v
 uses-passed from' {T} l u = uses-later (kept_same from' T) l u
 
 -- from one cabinet to another, whose later changes have the same lists, and none is Valid that was not
-uses-over : {n : ℕ} {c c' : Cabinet} (k : ℕ) {readers writers settled : List ℕ} → Sound n c → Sound n c' → length c'.changes ≡ length c.changes → NoneMoreValid (drop (suc k) (history_of c)) (drop (suc k) (history_of c')) → Uses (k + 1) (encode n c) readers writers settled → Uses (k + 1 + 1) (encode n c') readers writers settled
+uses-over : {n : ℕ} {c c' : Cabinet} (k : ℕ) {v : SettingUses} → Sound n c → Sound n c' → length c'.changes ≡ length c.changes → NoneMoreValid (drop (suc k) (history_of c)) (drop (suc k) (history_of c')) → Uses (k + 1) (encode n c) v → Uses (k + 1 + 1) (encode n c') v
 uses-over {c = c} {c'} k s s' e m u =
     let m' = subst (λ (j : ℕ). NoneMoreValid (drop j (history_of c)) (drop j (history_of c'))) (sym (add-one k)) m in
     uses-passed (k + 1 + 1) (omega arith) (uses-later (cabinets-kept s s' (k + 1) e m') (omega arith) u)
@@ -199,13 +200,13 @@ module _ {n : ℕ} {T : Tables} (g : Formed n T) where
 
 -- ---- the change at a position replaced
 
-module _ {n : ℕ} {T : Tables} (g : Formed n T) (k : ℕ) (h : k < held_count T) (new : Change) (view : List ℤ) {readers writers settled : List ℕ} (u : Uses (k + 1) T readers writers settled) where
+module _ {n : ℕ} {T : Tables} (g : Formed n T) (k : ℕ) (h : k < held_count T) (new : Change) (view : List ℤ) {v : SettingUses} (u : Uses (k + 1) T v) where
   -- and later ones of which none is Valid that was not
-  pub uses-replaced : (later' : History) → NoneMoreValid (drop (suc k) (history_in T)) later' → Sound n (with_history (decode T) (take k (history_in T) ++ new ∷ later') view) → Uses (k + 1 + 1) (encode n (with_history (decode T) (take k (history_in T) ++ new ∷ later') view)) readers writers settled
+  pub uses-replaced : (later' : History) → NoneMoreValid (drop (suc k) (history_in T)) later' → Sound n (with_history (decode T) (take k (history_in T) ++ new ∷ later') view) → Uses (k + 1 + 1) (encode n (with_history (decode T) (take k (history_in T) ++ new ∷ later') view)) v
   uses-replaced later' m s =
       uses-over k (facts g).sound s (length-put_at (decode T).order (take k (history_in T) ++ new ∷ later') (decode T).changes)
       (subst (NoneMoreValid (drop (suc k) (history_in T))) (sym (later-again (facts g).sound k (omega (arith, h, held-changes g)) new later' view (none-more-length (drop (suc k) (history_in T)) later' m))) m)
-      (subst (λ (U : Tables). Uses (k + 1) U readers writers settled) (sym (facts g).laid) u)
+      (subst (λ (U : Tables). Uses (k + 1) U v) (sym (facts g).laid) u)
 
 -- ---- a turn at a position
 
@@ -262,10 +263,10 @@ module _ {n : ℕ} {T : Tables} (g : Formed n T) (k : ℕ) (changed : List ℕ) 
 
   -- ---- what is known after the turn
 
-  module _ (h : k < held_count T) (new : Change) (view : List ℤ) {readers writers settled : List ℕ} (u : Uses (k + 1) T readers writers settled) where
+  module _ (h : k < held_count T) (new : Change) (view : List ℤ) {v : SettingUses} (u : Uses (k + 1) T v) where
     -- the change at the position replaced, the later ones marked, and what is settled then
-    pub uses-turned : OfSettings changed → {settled' status : List ℕ} → status ≡ marked_settings (columns_of T) readers (k + 1) changed T.status → Settled (k + 1) (columns_of T) status readers settled' → Sound n (with_history (decode T) (take k (history_in T) ++ new ∷ mark_live f later) view) → Uses (k + 1 + 1) (encode n (with_history (decode T) (take k (history_in T) ++ new ∷ mark_live f later) view)) readers writers settled'
-    uses-turned a {settled'} e d s =
+    pub uses-turned : OfSettings changed → {v' : SettingUses} {status : List ℕ} → status ≡ marked_settings (columns_of T) v.readers (k + 1) changed T.status → Marked (k + 1) (columns_of T) status v v' → Sound n (with_history (decode T) (take k (history_in T) ++ new ∷ mark_live f later) view) → Uses (k + 1 + 1) (encode n (with_history (decode T) (take k (history_in T) ++ new ∷ mark_live f later) view)) v'
+    uses-turned a {v'} e d s =
         let marked = take (suc k) (history_in T) ++ mark_live f later in
         let c = with_history (decode T) marked T.view in
         let sound : Sound n c = rw (view-decode T) at (marked-cabinet-sound (suc k) f (facts g).sound) in
@@ -274,4 +275,4 @@ module _ {n : ℕ} {T : Tables} (g : Formed n T) (k : ℕ) (changed : List ℕ) 
         let there = later-again (facts g).sound k (omega (arith, h, held-changes g)) new (mark_live f later) view (none-more-length later (mark_live f later) (none-more-marked f later)) in
         uses-over k sound s (length-put_at (decode T).order (take k (history_in T) ++ new ∷ mark_live f later) (decode T).changes ∙ sym (length-put_at (decode T).order marked (decode T).changes))
         (rw (here, there) (none-more-same (mark_live f later)))
-        (subst (λ (U : Tables). Uses (k + 1) U readers writers settled') (marked-tables a u.readers-end e) (uses-marked changed u e d))
+        (subst (λ (U : Tables). Uses (k + 1) U v') (marked-tables a u.readers-end e) (uses-marked changed u e d))

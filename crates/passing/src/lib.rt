@@ -10,6 +10,8 @@ ghost use Rattle.passing.specs.Drained.{drained};
 
 use drain_steps::pass_at;
 use totals::count_turn;
+use uses::SettingUses;
+use values::KnownValues;
 
 // The pass from the position of the first turn on, each turn counted in totals that are 0 before.
 pub fn pass_from(
@@ -30,40 +32,32 @@ pub fn pass_from(
     view: &mut [i32],
     versions: &[u16],
     kept: &[i32],
-    before: &mut [i32; 1024],
-    after: &mut [i32; 1024],
-    known: &mut [u8; 1024],
-    readers: &mut [u16; 1024],
-    writers: &mut [u16; 1024],
-    settled: &mut [u16; 1024],
+    values: &mut KnownValues,
+    uses: &mut SettingUses,
     totals: &mut [u16],
 )
     requires { (first ≤ count)
         × WithSome (λ T. Going first
         (with_lent T count timestamps.now order.now status.old withdrawn.now lengths.now programs.now reads.old
         writes.old sources.old seen.old targets.old written.old view.old versions.now kept.now)
-        known.old before.old after.old readers.old writers.old settled.old)
+        values.old uses.old)
         × (totals.old ≡ replicate total_count 0) }
     ensures { (T : Tables) →
         let L =
         with_lent T count timestamps.now order.now status.old withdrawn.now
         lengths.now programs.now reads.old writes.old sources.old
         seen.old targets.old written.old view.old versions.now kept.now in
-        Going first L known.old before.old after.old readers.old writers.old
-        settled.old →
+        Going first L values.old uses.old →
         reply totals.new
         (with_turn L status.new reads.new writes.new sources.new seen.new
         targets.new written.new view.new)
         ≡ drained L }
 {
-    let mut k = first;
-    while k < count {
+    for k in first..count {
         let answer = pass_at(
             k, count, timestamps, order, status, withdrawn, lengths, programs, reads, writes,
-            sources, seen, targets, written, view, versions, kept, before, after, known, readers,
-            writers, settled,
+            sources, seen, targets, written, view, versions, kept, values, uses,
         );
         count_turn(answer, totals);
-        k += 1;
     }
 }

@@ -12,7 +12,7 @@ use fresh::fill_start;
 use model::{Refusal, Standing};
 use search::{position, rank};
 use timestamps::is_timestamp;
-use values::value_below;
+use values::History;
 
 // The value of a setting in the view, or refusal 5.
 pub fn setting_value(view: &[i32], setting: usize) -> Result<i32, Refusal>
@@ -54,7 +54,14 @@ pub fn value_at(
         return Err(Refusal::NoSetting);
     }
     let k = rank(timestamp, count, order, timestamps);
-    Ok(value_below(setting as u16, k, order, writes, targets, written, kept))
+    let history = History {
+        order,
+        writes,
+        targets,
+        written,
+        kept,
+    };
+    Ok(history.value_below(setting as u16, k))
 }
 
 // The status and flag of the change of a timestamp among the first count of the order list, or refusal 4, 14 or 10.

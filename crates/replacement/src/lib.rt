@@ -9,8 +9,10 @@ ghost use Rattle.replacement.specs.Replaced.{Replaceable, Replaced};
 use acts::Act;
 use execution::new_lists;
 use propagation::propagate;
-use run_record::Run;
+use run_record::{Lists, Run};
 use storing::put_lists;
+use uses::{Columns, SettingUses};
+use values::{History, KnownValues};
 
 // The lists of the change at position k replaced by those that it has now: none where it is cleared, else those of its run by the rules of its version. Answers the run.
 pub fn replace(
@@ -29,79 +31,58 @@ pub fn replace(
     written: &mut [i32],
     view: &mut [i32],
     kept: &[i32],
-    before: &mut [i32; 1024],
-    after: &mut [i32; 1024],
-    known: &mut [u8; 1024],
-    readers: &[u16; 1024],
-    writers: &[u16; 1024],
-    settled: &mut [u16; 1024],
+    values: &mut KnownValues,
+    uses: &mut SettingUses,
 ) -> Run
     requires { let C = columns order.now reads.old sources.old writes.old targets.old in
         (act ≡ variant.Stand → ⊥)
-        × Replaceable k C seen.old written.old kept.now lengths.now programs.now status.old view.old known.old before.old
-        after.old readers.now settled.old }
-    ensures { let C =
-        columns order.now reads.old sources.old writes.old targets.old in
-        let C' =
-        columns order.now reads.new sources.new writes.new targets.new in
-        Replaced act version result k C seen.old written.old kept.now lengths.now programs.now
-        readers.now writers.now status.old view.old status.new C'
-        seen.new written.new view.new settled.new known.new before.new
-        after.new }
+        × Replaceable k C seen.old written.old kept.now lengths.now programs.now status.old view.old values.old uses.old }
+    ensures { let C = columns order.now reads.old sources.old writes.old targets.old in
+        let C' = columns order.now reads.new sources.new writes.new targets.new in
+        Replaced act version result k C seen.old written.old kept.now lengths.now programs.now status.old view.old uses.old
+        status.new C' seen.new written.new view.new uses.new values.new }
 {
-    let mut new_sources = [0u16; 32];
-    let mut new_seen = [0i32; 32];
-    let mut new_targets = [0u16; 32];
-    let mut new_written = [0i32; 32];
-    let run = new_lists(
-        act,
-        version,
-        k,
+    let mut lists = Lists::new();
+    let history = History {
         order,
-        lengths,
-        programs,
         writes,
         targets,
         written,
         kept,
-        before,
-        after,
-        known,
-        &mut new_sources,
-        &mut new_seen,
-        &mut new_targets,
-        &mut new_written,
+    };
+    let run = new_lists(
+        act, version, k, lengths, programs, &history, values, &mut lists,
     );
-    propagate(
-        k,
-        run.writes,
-        &new_targets,
-        &new_written,
+    let new_targets: &[u16] = &lists.targets;
+    let new_written: &[i32] = &lists.written;
+    let columns = Columns {
         order,
-        status,
         reads,
         sources,
         writes,
         targets,
+    };
+    propagate(
+        k,
+        &new_targets[..run.writes],
+        &new_written[..run.writes],
+        &columns,
         written,
-        view,
         kept,
-        before,
-        after,
-        known,
-        readers,
-        writers,
-        settled,
+        status,
+        view,
+        values,
+        uses,
     );
     let place = order[k] as usize;
     put_lists(
         place,
         run.reads,
         run.writes,
-        &new_sources,
-        &new_seen,
-        &new_targets,
-        &new_written,
+        &lists.sources,
+        &lists.seen,
+        new_targets,
+        new_written,
         reads,
         writes,
         sources,

@@ -11,6 +11,8 @@ ghost use Rattle.turns.specs.Turns.{turned, with_lent, WithSome};
 use model::Turn;
 use search::waiting;
 use turns::turn_at;
+use uses::SettingUses;
+use values::KnownValues;
 
 // One turn: idle, or that of the lowest stamped change that is New or Invalid.
 pub fn turn_once(
@@ -47,12 +49,8 @@ pub fn turn_once(
 {
     match waiting(count, order, status) {
         Some(k) => {
-            let mut before = [0i32; 1024];
-            let mut after = [0i32; 1024];
-            let mut known = [0u8; 1024];
-            let mut readers = [0u16; 1024];
-            let mut writers = [0u16; 1024];
-            let mut settled = [0u16; 1024];
+            let mut values = KnownValues::none();
+            let mut uses = SettingUses::none();
             turn_at(
                 false,
                 k,
@@ -72,12 +70,8 @@ pub fn turn_once(
                 view,
                 versions,
                 kept,
-                &mut before,
-                &mut after,
-                &mut known,
-                &mut readers,
-                &mut writers,
-                &mut settled,
+                &mut values,
+                &mut uses,
             )
         }
         None => Turn::Idle,

@@ -1,17 +1,11 @@
--- What a turn tells of its change, by what is done with it.
-use Rattle.std.specs.Prelude.{Bool, true, false, ℕ}
+-- What a turn answers of its change, by what is done with it.
+use Rattle.std.specs.Prelude.{ℕ}
 use Rattle.run_record.specs.declared.Run.{Run}
 use Rattle.run_record.specs.Record.{ending_of}
 use Rattle.model.specs.Answers.{Turned}
 use Rattle.model.specs.Calls.{run_answer}
 use Rattle.acts.specs.declared.Act.{Act}
 use Rattle.acts.specs.declared.Act.TheVariants as act
-
--- whether it stands
-abbrev pub is_stand : Act → Bool
-is_stand act.Clear = false
-is_stand act.Stand = true
-is_stand act.Run = false
 
 -- the answer; where the change ran, by how that run ended
 abbrev pub answer_by : Act → Run → ℕ → Turned

@@ -1,26 +1,15 @@
-// What a turn tells of its change: whether it stands, and the answer.
+// What a turn answers of its change.
 #![tactic(auto)]
 
 ghost use Rattle.std.specs.Prelude.{◌≡◌};
 ghost use Rattle.run_record.specs.Record.{ending_of};
 ghost use Rattle.model.specs.Answers.{as_turn};
 ghost use Rattle.model.specs.Calls.{run_answer};
-ghost use Rattle.turn_answers.specs.Answers.{is_stand, answer_by};
+ghost use Rattle.turn_answers.specs.Answers.{answer_by};
 
 use acts::Act;
 use model::Turn;
 use run_record::Run;
-
-// Whether a change stands.
-pub fn stands(act: Act) -> bool
-    ensures { result ≡ is_stand act }
-{
-    match act {
-        Act::Clear => false,
-        Act::Stand => true,
-        Act::Run => false,
-    }
-}
 
 // The answer to a run of the change of a timestamp: it ran, or it faulted at the place where the run broke off.
 fn run_answer(run: Run, timestamp: u64) -> Turn

@@ -31,8 +31,10 @@ use Rattle.search.proofs.First.{first_some}
 use Rattle.search.proofs.Model.{history_in, held-changes, history-length, by_place}
 use Rattle.search.proofs.Passes.{passes, passes-turned}
 use Rattle.search.proofs.Waits.{status-of, waiting-held, waiting-some, walk-some}
+use Rattle.values.specs.declared.KnownValues.{KnownValues}
 use Rattle.values.specs.Values.{values_below, Known}
 use Rattle.values.proofs.Model.{upto_in, values-below, reads_here}
+use Rattle.uses.specs.declared.SettingUses.{SettingUses}
 use Rattle.uses.specs.Uses.{Uses}
 use Rattle.marking_laws.proofs.Restated.{with_status, unstated, Restated, restated}
 use Rattle.marking_laws.proofs.Cabinet.{marked-keeps, marked-cabinet-sound}
@@ -236,15 +238,15 @@ module _ {T : Tables} (g : Formed (length T.order) T) (k : ℕ) (w : waiting_in 
         ∙ ap (after (lists new).writes) (sym (values-below g k (omega (arith, held))))
 
     pub going_next :
-        {known : List ℕ} {before after' : List ℤ} {readers writers settled : List ℕ} →
+        {v : KnownValues} {u' : SettingUses} →
         status new ≡ Valid →
-        Known (after (lists new).writes (values_below T.order T.writes T.targets T.written T.kept k)) known before after' →
-        Uses (k + 1 + 1) (encode n next) readers writers settled →
-        turns.Going (k + 1) U known before after' readers writers settled
-    going_next {known} {before} {after'} {readers} {writers} {settled} v q p =
+        Known (after (lists new).writes (values_below T.order T.writes T.targets T.written T.kept k)) v →
+        Uses (k + 1 + 1) (encode n next) u' →
+        turns.Going (k + 1) U v u'
+    going_next {v} {u'} e q p =
         record {
           formed = formed-next;
-          passed = λ j h. passed-next v j (omega arith);
-          values = subst (λ (env : Environment). Known env known before after') (sym (ap (values_below U.order U.writes U.targets U.written U.kept) (add-one k) ∙ values-next-turn)) q;
-          uses = subst (λ (W : Tables). Uses (k + 1 + 1) W readers writers settled) (sym u) p;
+          passed = λ j h. passed-next e j (omega arith);
+          values = subst (λ (env : Environment). Known env v) (sym (ap (values_below U.order U.writes U.targets U.written U.kept) (add-one k) ∙ values-next-turn)) q;
+          uses = subst (λ (W : Tables). Uses (k + 1 + 1) W u') (sym u) p;
         }

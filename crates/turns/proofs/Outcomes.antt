@@ -25,11 +25,13 @@ use Rattle.model.proofs.Entries.{settings-entries, values-entries, length-entrie
 use Rattle.search.specs.Searches.{waiting_in}
 use Rattle.writers.proofs.Model.{wrote}
 use Rattle.search.proofs.Model.{history_in}
+use Rattle.values.specs.declared.KnownValues.{KnownValues}
 use Rattle.values.specs.Values.{values_below, Known}
 use Rattle.carrying.specs.Carrying.{Carried}
 use Rattle.carrying.proofs.Carried.{known_carried}
 use Rattle.values.proofs.Model.{upto_in, values-below, program-here, program-size, here-sound}
 use Rattle.uses.specs.Columns.{Columns, columns_of}
+use Rattle.uses.specs.declared.SettingUses.{SettingUses}
 use Rattle.uses.specs.Uses.{Uses}
 use Rattle.marking_laws.proofs.Restated.{with_status, unstated}
 use Rattle.marking_laws.proofs.LiveSets.{Agree}
@@ -42,20 +44,11 @@ use Rattle.propagation.specs.Propagated.{Propagated}
 use Rattle.replacement.specs.Replaced.{Fitting, new_columns}
 use Rattle.replacement.specs.Replaced as replacement
 use Rattle.replacement.proofs.Made.{made-fits}
-use Rattle.turn_answers.specs.Answers.{is_stand, answer_by}
+use Rattle.turn_answers.specs.Answers.{answer_by}
 use Rattle.turns.specs.Turns as turns
 use Rattle.turns.proofs.Acts.{settle_change, step_by}
 use Rattle.turns.proofs.Replaced.{replaced_tables}
 use Rattle.turns.proofs.Model.{held, here, later, act_in, timestamp-here, turns-by, stood-tables, settled-tables, next-sound, turn-leaves, going_next}
-
--- what the test of an act tells
-pub is-stand : (a : Act) → is_stand a ≡ true → a ≡ act.Stand
-is-stand act.Clear e = impossible (cc)
-is-stand act.Stand e = refl
-is-stand act.Run e = impossible (cc)
-
-pub not-stand : (a : Act) → is_stand a ≡ false → a ≡ act.Stand → ⊥
-not-stand a e s = true-is-not-false (ap is_stand (sym s) ∙ e)
 
 -- a change made Valid
 unstated-valid : (c : Change) → unstated (change (timestamp c) (program c) Valid (withdrawn c) (lists c)) ≡ unstated c
@@ -106,14 +99,14 @@ module _ {T : Tables} (g : Formed (length T.order) T) (k : ℕ) (w : waiting_in 
         ∙ turn-leaves g k w stays (later g k w) (decode T).view stood-round stood-left
 
     pub going-stood :
-        {known : List ℕ} {before after₀ before' after' : List ℤ} {readers writers settled : List ℕ} →
-        Known (values_below T.order T.writes T.targets T.written T.kept k) known before after₀ →
-        Carried (list_in T.writes T.targets T.written place) before after₀ before' after' →
-        Uses (k + 1) T readers writers settled →
-        turns.Going (k + 1) (with_status T status') known before' after' readers writers settled
-    going-stood {before = before} {after₀} {before'} {after'} q c u =
+        {v v' : KnownValues} {u : SettingUses} →
+        Known (values_below T.order T.writes T.targets T.written T.kept k) v →
+        Carried (list_in T.writes T.targets T.written place) v v' →
+        Uses (k + 1) T u →
+        turns.Going (k + 1) (with_status T status') v' u
+    going-stood {v} {v'} q c u =
         going_next g k w stays (later g k w) (decode T).view stood-round stood-left refl
-        (known_carried q (subst (λ (l : List Entry). Carried l before after₀ before' after') (wrote g k held-here) c))
+        (known_carried q (subst (λ (l : List Entry). Carried l v v') (wrote g k held-here) c))
         (uses-replaced g k held-here stays (decode T).view u (later g k w) (none-more-same (later g k w)) (next-sound g k w stays (later g k w) (decode T).view stood-round stood-left))
 
   -- ---- its lists were replaced
@@ -147,18 +140,18 @@ module _ {T : Tables} (g : Formed (length T.order) T) (k : ℕ) (w : waiting_in 
     abbrev view_of : List ℤ
     view_of = all_settings (λ x. cond (live_at_end changes (later g k w) x) (after new.writes env x) (value_in (decode T).view x))
 
-    module _ {readers writers status' : List ℕ} {view' : List ℤ} {settled' known' : List ℕ} {before' after' : List ℤ} (p : Propagated k (columns_of T) T.written T.kept (entries l.writes l.targets l.written) readers writers T.status T.view status' view' settled' known' before' after') {settled : List ℕ} (u : Uses (k + 1) T readers writers settled) where
+    module _ {v v' : SettingUses} {status' : List ℕ} {view' : List ℤ} {known : KnownValues} (p : Propagated k (columns_of T) T.written T.kept (entries l.writes l.targets l.written) T.status T.view v status' view' v' known) (u : Uses (k + 1) T v) where
       agree : Agree (λ x. holds x p.changed) changes
       agree x h =
           let old = wrote g k held-here in
           p.differing x h ∙ (λ j. not (eq_z (after (old j) (upto j) x) (after (written j) (upto j) x)))
 
-      new-value : (x : ℕ) → x < setting_count → holds x p.changed ≡ true → value_in after' x ≡ after new.writes env x
+      new-value : (x : ℕ) → x < setting_count → holds x p.changed ≡ true → value_in known.after x ≡ after new.writes env x
       new-value x h t = p.renewed x h t ∙ (λ j. after (written j) (upto j) x)
 
       view-left : view' ≡ view_of
       view-left =
-          view-tables g k p.changed changes agree after' (after new.writes env) u.writers-end p.viewed new-value
+          view-tables g k p.changed changes agree known.after (after new.writes env) u.writers-end p.viewed new-value
           ∙ ap (λ (v : List ℤ). all_settings (λ x. cond (live_at_end changes (later g k w) x) (after new.writes env x) (value_in v x))) (sym (view-decode T))
 
       module _ {status'' reads' writes' sources' : List ℕ} {seen' : List ℤ} {targets' : List ℕ} {written' : List ℤ} (s : status'' ≡ set status' place 1) (put : ListsPut place l T.reads T.writes T.sources T.seen T.targets T.written reads' writes' sources' seen' targets' written') where
@@ -190,20 +183,20 @@ module _ {T : Tables} (g : Formed (length T.order) T) (k : ℕ) (w : waiting_in 
           turn-left : reply (event_answer e) left ≡ turns.turned T
           turn-left = turn-leaves g k w replacing (mark_live changes (later g k w)) view_of left-round left-settled
 
-          going-left : turns.Going (k + 1) left known' before' after' readers writers settled'
+          going-left : turns.Going (k + 1) left known v'
           going-left =
               going_next g k w replacing (mark_live changes (later g k w)) view_of left-round left-settled refl
-              (subst (λ (x : List Entry). Known (after x (values_below T.order T.writes T.targets T.written T.kept k)) known' before' after') written p.values)
-              (uses-turned g k p.changed changes agree held-here replacing view_of u p.settings p.marked p.settled-to (next-sound g k w replacing (mark_live changes (later g k w)) view_of left-round left-settled))
+              (subst (λ (x : List Entry). Known (after x (values_below T.order T.writes T.targets T.written T.kept k)) known) written p.values)
+              (uses-turned g k p.changed changes agree held-here replacing view_of u p.settings p.marked p.uses (next-sound g k w replacing (mark_live changes (later g k w)) view_of left-round left-settled))
 
   -- it was cleared or ran
-  module _ {a : Act} (d : a ≡ act_in g k w) (moves : a ≡ act.Stand → ⊥) {t : ℕ} (s : t ≡ get_or T.timestamps place 0) {version : ℕ} (v : version ≡ get_or T.versions place 0) {readers writers settled : List ℕ} (u : Uses (k + 1) T readers writers settled) {status' : List ℕ} {C' : Columns} {seen' written' view' : List ℤ} {settled' known' : List ℕ} {before' after' : List ℤ} {new : Run} (r : replacement.Replaced a version new k (columns_of T) T.seen T.written T.kept T.lengths T.programs readers writers T.status T.view status' C' seen' written' view' settled' known' before' after') {status'' : List ℕ} (q : status'' ≡ set status' place 1) where
+  module _ {a : Act} (d : a ≡ act_in g k w) (moves : a ≡ act.Stand → ⊥) {t : ℕ} (s : t ≡ get_or T.timestamps place 0) {version : ℕ} (v : version ≡ get_or T.versions place 0) {uses uses' : SettingUses} (u : Uses (k + 1) T uses) {status' : List ℕ} {C' : Columns} {seen' written' view' : List ℤ} {known : KnownValues} {new : Run} (r : replacement.Replaced a version new k (columns_of T) T.seen T.written T.kept T.lengths T.programs T.status T.view uses status' C' seen' written' view' uses' known) {status'' : List ℕ} (q : status'' ≡ set status' place 1) where
     abbrev pub left_tables : Tables
     left_tables = with_turn T status'' C'.reads C'.writes C'.sources seen' C'.targets written' view'
 
-    pub turn-replaced : {answer : Turned} → answer ≡ answer_by a new t → (reply answer left_tables ≡ turns.turned T) × turns.Going (k + 1) left_tables known' before' after' readers writers settled'
+    pub turn-replaced : {answer : Turned} → answer ≡ answer_by a new t → (reply answer left_tables ≡ turns.turned T) × turns.Going (k + 1) left_tables known uses'
     unfolding run_lists
-    turn-replaced e = subst (λ (answer : Turned). (reply answer left_tables ≡ turns.turned T) × turns.Going (k + 1) left_tables known' before' after' readers writers settled') (sym (e ∙ ap (answer_by a new) (s ∙ timestamp-here g k w))) (go a refl)
+    turn-replaced e = subst (λ (answer : Turned). (reply answer left_tables ≡ turns.turned T) × turns.Going (k + 1) left_tables known uses') (sym (e ∙ ap (answer_by a new) (s ∙ timestamp-here g k w))) (go a refl)
       where
         l : NewLists
         l = new_columns new r.arrays
@@ -212,12 +205,12 @@ module _ {T : Tables} (g : Formed (length T.order) T) (k : ℕ) (w : waiting_in 
         short = subst⁻¹ (λ (p : Code). length p.bytes ≤ 256) (program-here g k held-here) (program-size g k held-here)
 
         fits : Fitting l
-        fits = made-fits _ _ moves short r.made
+        fits = made-fits _ _ moves short r.sized r.made
 
         same : run (values_below T.order T.writes T.targets T.written T.kept k) (code version (program_in T.lengths T.programs place)) ≡ run env (program this)
         same = ap₂ run upto (ap (λ (x : ℕ). code x (program_in T.lengths T.programs place)) v ∙ program-here g k held-here)
 
-        go : (b : Act) → a ≡ b → (reply (answer_by a new (timestamp this)) left_tables ≡ turns.turned T) × turns.Going (k + 1) left_tables known' before' after' readers writers settled'
+        go : (b : Act) → a ≡ b → (reply (answer_by a new (timestamp this)) left_tables ≡ turns.turned T) × turns.Going (k + 1) left_tables known uses'
         go act.Clear e =
             let m = r.made.cleared e in
             let read = no-entries l.reads l.sources l.seen m.0 in

@@ -10,12 +10,14 @@ use Rattle.model.specs.Form.{Formed}
 use Rattle.model.proofs.Form.{facts}
 use Rattle.writers.specs.Writers.{OfSettings, WriteLists}
 use Rattle.writers.proofs.Model.{tested-settings, placed-writes, listed}
-use Rattle.values.specs.Values.{values_below, Known, Lookable}
+use Rattle.values.specs.declared.KnownValues.{KnownValues}
+use Rattle.values.specs.Values.{history_lists, values_below, Known, Lookable}
 use Rattle.values.proofs.Model.{program-formed}
 use Rattle.acts.specs.Acts.{Positioned, Decidable}
 use Rattle.execution.specs.Executed.{Runnable}
 use Rattle.storing.specs.Stored.{NewLists, ListsStorable}
 use Rattle.uses.specs.Columns.{columns_of}
+use Rattle.uses.specs.declared.SettingUses.{SettingUses}
 use Rattle.uses.specs.Uses.{Uses}
 use Rattle.marking_laws.proofs.Model.{empty-rests, markable}
 use Rattle.replacement.specs.Replaced.{Fitting, Replaceable}
@@ -87,7 +89,7 @@ module _ {n : ℕ} {T : Tables} (g : Formed n T) (k : ℕ) (h : k < held_count T
   pub write-settings : OfSettings (slots 32 place (get_or T.writes place 0) T.targets)
   write-settings = tested-settings _ ((facts g).form.writes place place-held).distinct
 
-  pub lookable : {known : List ℕ} {before after : List ℤ} → Known (values_below T.order T.writes T.targets T.written T.kept k) known before after → Lookable k T.order T.writes T.targets T.written T.kept known before after
+  pub lookable : {v : KnownValues} → Known (values_below T.order T.writes T.targets T.written T.kept k) v → Lookable k (history_lists T.order T.writes T.targets T.written T.kept) v
   lookable q = record { placed = placed-writes g k (omega (arith, h)); listed = listed g; kept-sized = (facts g).sizes.kept; right = q }
 
   storable : (l : NewLists) → Fitting l → ListsStorable place l T.reads T.writes T.sources T.seen T.targets T.written
@@ -114,10 +116,10 @@ module _ {n : ℕ} {T : Tables} (g : Formed n T) (k : ℕ) (h : k < held_count T
 
   -- for `replace`
   pub replaceable :
-      {known : List ℕ} {before after : List ℤ} {readers writers settled : List ℕ} →
-      Known (values_below T.order T.writes T.targets T.written T.kept k) known before after →
-      Uses (k + 1) T readers writers settled →
-      Replaceable k (columns_of T) T.seen T.written T.kept T.lengths T.programs T.status T.view known before after readers settled
+      {v : KnownValues} {u : SettingUses} →
+      Known (values_below T.order T.writes T.targets T.written T.kept k) v →
+      Uses (k + 1) T u →
+      Replaceable k (columns_of T) T.seen T.written T.kept T.lengths T.programs T.status T.view v u
   replaceable q u =
       record {
         runnable = runnable;

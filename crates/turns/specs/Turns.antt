@@ -6,7 +6,9 @@ use Rattle.model.specs.Tables.{Tables, tables, decode}
 use Rattle.model.specs.Form.{Formed}
 use Rattle.model.specs.Calls.{Reply, step_reply, round_of}
 use Rattle.search.specs.Searches.{is_waiting, waiting_in}
+use Rattle.values.specs.declared.KnownValues.{KnownValues}
 use Rattle.values.specs.Values.{values_below, Known}
+use Rattle.uses.specs.declared.SettingUses.{SettingUses}
 use Rattle.uses.specs.Uses.{Uses, Noted}
 
 -- the answer and the tables after one turn (Figure 1); the capacity is the length of the order list
@@ -28,15 +30,15 @@ pub record WithSome (fits : Tables → Type 0) : Type 0 where
 -- ---- up the order list
 
 -- turns have gone up to a position: every change below it is Valid, the known values are those as of it, and it is noted how far each setting matters above it
-pub record Going (k : ℕ) (T : Tables) (known : List ℕ) (before after : List ℤ) (readers writers settled : List ℕ) : Type 0 where
+pub record Going (k : ℕ) (T : Tables) (v : KnownValues) (u : SettingUses) : Type 0 where
   pub formed : Formed (length T.order) T
   pub passed : (j : ℕ) → j < k → is_waiting T.order T.status j ≡ false
-  pub values : Known (values_below T.order T.writes T.targets T.written T.kept k) known before after
-  pub uses : Uses (k + 1) T readers writers settled
+  pub values : Known (values_below T.order T.writes T.targets T.written T.kept k) v
+  pub uses : Uses (k + 1) T u
 
 -- the change at a position has its turn; what is noted of the settings above it, if anything is
-pub record Turnable (noted : Bool) (k : ℕ) (T : Tables) (known : List ℕ) (before after : List ℤ) (readers writers settled : List ℕ) : Type 0 where
+pub record Turnable (noted : Bool) (k : ℕ) (T : Tables) (v : KnownValues) (u : SettingUses) : Type 0 where
   pub formed : Formed (length T.order) T
   pub waits : waiting_in T ≡ some k
-  pub values : Known (values_below T.order T.writes T.targets T.written T.kept k) known before after
-  pub notes : Noted noted (k + 1) T readers writers settled
+  pub values : Known (values_below T.order T.writes T.targets T.written T.kept k) v
+  pub notes : Noted noted (k + 1) T u

@@ -7,12 +7,13 @@ ghost use Rattle.model.specs.Answers.{as_turn};
 ghost use Rattle.model.specs.Calls.{reply};
 ghost use Rattle.turns.specs.Turns.{turned, with_lent, WithSome, Going, Turnable};
 
-use acts::decide;
+use acts::{Act, decide};
 use carrying::carry_place;
 use model::Turn;
 use replacement::replace;
-use turn_answers::{answer_of, stands};
-use uses::note_uses;
+use turn_answers::answer_of;
+use uses::{Columns, SettingUses};
+use values::{History, KnownValues};
 
 // The turn of the change at position k, with the values as of it that are known. What is noted of the settings serves a drain; a single turn has nothing noted.
 pub fn turn_at(
@@ -34,17 +35,13 @@ pub fn turn_at(
     view: &mut [i32],
     versions: &[u16],
     kept: &[i32],
-    before: &mut [i32; 1024],
-    after: &mut [i32; 1024],
-    known: &mut [u8; 1024],
-    readers: &mut [u16; 1024],
-    writers: &mut [u16; 1024],
-    settled: &mut [u16; 1024],
+    values: &mut KnownValues,
+    uses: &mut SettingUses,
 ) -> Turn
     requires { WithSome (λ T. Turnable noted k
         (with_lent T count timestamps.now order.now status.old withdrawn.now lengths.now programs.now reads.old
         writes.old sources.old seen.old targets.old written.old view.old versions.now kept.now)
-        known.old before.old after.old readers.old writers.old settled.old) }
+        values.old uses.old) }
     ensures { (T : Tables) →
         let L =
         with_lent T count timestamps.now order.now status.old withdrawn.now
@@ -53,40 +50,38 @@ pub fn turn_at(
         let U =
         with_turn L status.new reads.new writes.new sources.new seen.new
         targets.new written.new view.new in
-        Turnable noted k L known.old before.old after.old readers.old writers.old
-        settled.old →
+        Turnable noted k L values.old uses.old →
         (reply (as_turn result) U ≡ turned L)
-        × (noted ≡ true → Going (k + 1) U known.new before.new after.new readers.new
-        writers.new settled.new) }
+        × (noted ≡ true → Going (k + 1) U values.new uses.new) }
 {
     let place = order[k] as usize;
     let timestamp = timestamps[place];
     let version = versions[place];
-    let act = decide(
-        k, order, status, withdrawn, reads, sources, seen, writes, targets, written, kept, before,
-        after, known,
-    );
-    if stands(act) {
-        carry_place(place, writes, targets, written, before, after);
+    let history = History {
+        order,
+        writes,
+        targets,
+        written,
+        kept,
+    };
+    let act = decide(k, &history, status, withdrawn, reads, sources, seen, values);
+    let stands = act == Act::Stand;
+    if stands {
+        carry_place(place, &history, values);
         status[place] = 1;
         return Turn::Stood(timestamp);
     }
-    note_uses(
-        noted,
-        k + 1,
-        count,
+    let columns = Columns {
         order,
-        status,
         reads,
         sources,
         writes,
         targets,
-        readers,
-        writers,
-    );
+    };
+    uses.note(noted, k + 1, count, &columns, status);
     let run = replace(
         act, version, k, order, status, lengths, programs, reads, writes, sources, seen, targets,
-        written, view, kept, before, after, known, readers, writers, settled,
+        written, view, kept, values, uses,
     );
     status[place] = 1;
     answer_of(act, run, timestamp)

@@ -12,6 +12,8 @@ ghost use Rattle.passing.specs.Drained.{drained};
 
 use model::Turn;
 use tables::held_count;
+use uses::SettingUses;
+use values::KnownValues;
 
 // The turn of the change at position k, with the values as of it that are known. What is noted of the settings serves a drain; a single turn has nothing noted.
 pub fn turn_at(
@@ -34,17 +36,13 @@ pub fn turn_at(
     versions: &[u16],
     cutoff: &[u64],
     kept: &[i32],
-    before: &mut [i32; 1024],
-    after: &mut [i32; 1024],
-    known: &mut [u8; 1024],
-    readers: &mut [u16; 1024],
-    writers: &mut [u16; 1024],
-    settled: &mut [u16; 1024],
+    values: &mut KnownValues,
+    uses: &mut SettingUses,
 ) -> Turn
     requires { let T =
         tables held.now timestamps.now order.now status.old withdrawn.now lengths.now programs.now reads.old
         writes.old sources.old seen.old targets.old written.old view.old versions.now cutoff.now kept.now in
-        Turnable noted k T known.old before.old after.old readers.old writers.old settled.old }
+        Turnable noted k T values.old uses.old }
     ensures { let T =
         tables held.now timestamps.now order.now status.old withdrawn.now
         lengths.now programs.now reads.old writes.old sources.old
@@ -53,8 +51,7 @@ pub fn turn_at(
         with_turn T status.new reads.new writes.new sources.new seen.new
         targets.new written.new view.new in
         (reply (as_turn result) U ≡ turned T)
-        × (noted ≡ true → Going (k + 1) U known.new before.new after.new readers.new
-        writers.new settled.new) }
+        × (noted ≡ true → Going (k + 1) U values.new uses.new) }
 {
     turns::turn_at(
         noted,
@@ -75,12 +72,8 @@ pub fn turn_at(
         view,
         versions,
         kept,
-        before,
-        after,
-        known,
-        readers,
-        writers,
-        settled,
+        values,
+        uses,
     )
 }
 

@@ -3,6 +3,7 @@ use Rattle.std.specs.Prelude.{◌≡◌, Bool, List, ℕ, ◌+◌, ◌*◌, ◌<
 use Rattle.model.specs.Form.{holds}
 use Rattle.model.specs.Tables.{Tables, slots}
 use Rattle.writers.specs.Writers.{OfSettings}
+use Rattle.uses.specs.declared.Columns as lent
 
 -- the order list, and the counts and the settings of the read and write lists by place
 pub record Columns : Type 0 where
@@ -15,6 +16,10 @@ pub record Columns : Type 0 where
 abbrev pub columns : List ℕ → List ℕ → List ℕ → List ℕ → List ℕ → Columns
 columns order reads sources writes targets =
     record { order = order; reads = reads; sources = sources; writes = writes; targets = targets }
+
+-- those that are lent
+abbrev pub lent_columns : lent.Columns → Columns
+lent_columns c = columns c.order.now c.reads.now c.sources.now c.writes.now c.targets.now
 
 abbrev pub columns_of : Tables → Columns
 columns_of T = columns T.order T.reads T.sources T.writes T.targets

@@ -2,6 +2,7 @@
 use Rattle.std.specs.Prelude.{◌≡◌, Bool, true, false, cond, ◌&&◌, List, [], ◌∷◌, ◌⊎◌, ℕ, zero, suc, ◌-◌, ◌<◌, ◌≤◌, eqb, leb, length, get_or, set}
 use Rattle.machine.specs.Settings.{setting_count}
 use Rattle.model.specs.Tables.{Tables, held_count}
+use Rattle.uses.specs.declared.SettingUses.{SettingUses}
 use Rattle.uses.specs.Columns.{Columns, columns_of, reads_setting, writes_setting, Walkable}
 
 -- ---- numbers of the settings
@@ -53,31 +54,44 @@ pub record Settled (from : ℕ) (C : Columns) (status readers settled : List ℕ
   pub ends : (s : ℕ) → s < setting_count → from < get_or settled s 0 → (writes_setting C s (get_or settled s 0 - 1) ≡ true) ⊎ (get_or readers s 0 ≤ get_or settled s 0)
 
 -- the three for some tables
-pub record Uses (from : ℕ) (T : Tables) (readers writers settled : List ℕ) : Type 0 where
-  pub readers-end : ReadersEnd from (held_count T) (columns_of T) T.status readers
-  pub writers-end : WritersEnd from (held_count T) (columns_of T) writers
-  pub settled-to : Settled from (columns_of T) T.status readers settled
+pub record Uses (from : ℕ) (T : Tables) (u : SettingUses) : Type 0 where
+  pub readers-end : ReadersEnd from (held_count T) (columns_of T) T.status u.readers
+  pub writers-end : WritersEnd from (held_count T) (columns_of T) u.writers
+  pub settled-to : Settled from (columns_of T) T.status u.readers u.settled
+
+-- nothing is noted
+pub record NoneNoted (u : SettingUses) : Type 0 where
+  pub readers : Numbers u.readers (λ s. 0)
+  pub writers : Numbers u.writers (λ s. 0)
+  pub settled : Numbers u.settled (λ s. 0)
 
 -- what is noted of the settings: all that is needed, or nothing yet
-pub record Noted (noted : Bool) (from : ℕ) (T : Tables) (readers writers settled : List ℕ) : Type 0 where
-  pub uses : noted ≡ true → Uses from T readers writers settled
-  pub none : noted ≡ false → Numbers readers (λ s. 0) × Numbers writers (λ s. 0) × Numbers settled (λ s. 0)
+pub record Noted (noted : Bool) (from : ℕ) (T : Tables) (u : SettingUses) : Type 0 where
+  pub uses : noted ≡ true → Uses from T u
+  pub none : noted ≡ false → NoneNoted u
 
 -- what noting the last uses relies on: positions of the order list, walks within the tables, and no number where nothing is noted
-pub record Notable (noted : Bool) (from count : ℕ) (C : Columns) (places : ℕ) (readers writers : List ℕ) : Type 0 where
+pub record Notable (noted : Bool) (from count : ℕ) (C : Columns) (places : ℕ) (u : SettingUses) : Type 0 where
   pub within : from ≤ count
   pub small : count ≤ 4096
   pub listed : count ≤ length C.order
   pub walkable : Walkable C places
-  pub none : noted ≡ false → Numbers readers (λ s. 0) × Numbers writers (λ s. 0)
+  pub none : noted ≡ false → NoneNoted u
 
 -- what it gives: the numbers as they were, where they were noted, or the last uses
-pub record UsesNoted (noted : Bool) (from count : ℕ) (C : Columns) (status readers writers readers' writers' : List ℕ) : Type 0 where
-  pub kept : noted ≡ true → (readers' ≡ readers) × (writers' ≡ writers)
-  pub first : noted ≡ false → LastUses from count C status readers' writers'
+pub record UsesNoted (noted : Bool) (from count : ℕ) (C : Columns) (status : List ℕ) (u u' : SettingUses) : Type 0 where
+  pub kept : noted ≡ true → u' ≡ u
+  pub first : noted ≡ false → LastUses from count C status u'.readers u'.writers
+  pub settled : u'.settled ≡ u.settled
 
 -- what marking some settings relies on: walks within the order list, and what is settled
-pub record Markable (from : ℕ) (C : Columns) (status readers settled : List ℕ) : Type 0 where
+pub record Markable (from : ℕ) (C : Columns) (status : List ℕ) (u : SettingUses) : Type 0 where
   pub walkable : Walkable C (length status)
-  pub within : (s : ℕ) → s < setting_count → get_or readers s 0 ≤ length C.order
-  pub settled-to : Settled from C status readers settled
+  pub within : (s : ℕ) → s < setting_count → get_or u.readers s 0 ≤ length C.order
+  pub settled-to : Settled from C status u.readers u.settled
+
+-- what marking leaves: what is settled, and where readers and writers end as before
+pub record Marked (from : ℕ) (C : Columns) (status : List ℕ) (u u' : SettingUses) : Type 0 where
+  pub readers : u'.readers ≡ u.readers
+  pub writers : u'.writers ≡ u.writers
+  pub settled-to : Settled from C status u'.readers u'.settled

@@ -3,14 +3,32 @@
 
 ghost use Rattle.std.specs.Prelude.{◌≡◌, ◌<◌, ◌≤◌, length};
 ghost use Rattle.writers.specs.Writers.{OfSettings};
-ghost use Rattle.uses.specs.Columns.{columns, list_at, Listed, Walkable};
+ghost use Rattle.uses.specs.Columns.{list_at, lent_columns, Listed, Walkable};
 ghost use Rattle.uses.specs.Uses as uses;
+
+// The order list, and the counts and the settings of the read and write lists by place.
+#[derive(Clone, Copy, Drop)]
+pub struct Columns<'a> {
+    pub order: &'a [u16],
+    pub reads: &'a [u16],
+    pub sources: &'a [u16],
+    pub writes: &'a [u16],
+    pub targets: &'a [u16],
+}
+
+// Of each setting: up to where it has Valid readers, up to where it has writers, and how far it is settled.
+#[derive(Drop)]
+pub struct SettingUses {
+    pub readers: [u16; 1024],
+    pub writers: [u16; 1024],
+    pub settled: [u16; 1024],
+}
 
 // A number of a table, as a position.
 pub fn wide(number: u16) -> usize
     ensures { (result ≡ number) × (result < 65536) }
 {
-    number as usize
+    usize::from(number)
 }
 
 // A number stored for each setting of a list.
@@ -18,10 +36,8 @@ fn note_list(settings: &[u16], number: u16, numbers: &mut [u16; 1024])
     requires { OfSettings settings.now }
     ensures { numbers.new ≡ uses.numbered settings.now number numbers.old }
 {
-    let mut j = 0;
-    while j < settings.len() {
-        numbers[settings[j] as usize] = number;
-        j += 1;
+    for s in settings {
+        numbers[*s as usize] = number;
     }
 }
 
@@ -37,62 +53,63 @@ fn note_at(place: usize, number: u16, counts: &[u16], settings: &[u16], numbers:
     note_list(&settings[begin..end], number, numbers);
 }
 
-// From a position on, of each setting one past the last Valid change that reads it, and one past the last change that writes it; 0 where there is none.
-pub fn last_uses(
-    from: usize,
-    count: usize,
-    order: &[u16],
-    status: &[u16],
-    reads: &[u16],
-    sources: &[u16],
-    writes: &[u16],
-    targets: &[u16],
-    readers: &mut [u16; 1024],
-    writers: &mut [u16; 1024],
-)
-    requires { (from ≤ count) × (count ≤ 4096) × (count ≤ length order.now)
-        × Walkable (columns order.now reads.now sources.now writes.now targets.now) (length status.now)
-        × uses.Numbers readers.old (λ s. 0) × uses.Numbers writers.old (λ s. 0) }
-    ensures { let C =
-        columns order.now reads.now sources.now writes.now targets.now in
-        uses.LastUses from count C status.now readers.new writers.new }
-{
-    let mut p = from;
-    while p < count {
-        let place = order[p] as usize;
-        let next = p + 1;
-        if status[place] == 1 {
-            note_at(place, next as u16, reads, sources, readers);
+impl SettingUses {
+    // Nothing is noted.
+    pub fn none() -> Self
+        ensures { uses.NoneNoted result }
+    {
+        SettingUses {
+            readers: [0; 1024],
+            writers: [0; 1024],
+            settled: [0; 1024],
         }
-        note_at(place, next as u16, writes, targets, writers);
-        p = next;
     }
-}
 
-// The last uses from a position on, where they are not noted yet.
-pub fn note_uses(
-    noted: bool,
-    from: usize,
-    count: usize,
-    order: &[u16],
-    status: &[u16],
-    reads: &[u16],
-    sources: &[u16],
-    writes: &[u16],
-    targets: &[u16],
-    readers: &mut [u16; 1024],
-    writers: &mut [u16; 1024],
-)
-    requires { let C = columns order.now reads.now sources.now writes.now targets.now in
-        uses.Notable noted from count C (length status.now) readers.old writers.old }
-    ensures { let C =
-        columns order.now reads.now sources.now writes.now targets.now in
-        uses.UsesNoted noted from count C status.now readers.old writers.old
-        readers.new writers.new }
-{
-    if !noted {
-        last_uses(
-            from, count, order, status, reads, sources, writes, targets, readers, writers,
-        );
+    // From a position on, of each setting one past the last Valid change that reads it, and one past the last change that writes it; 0 where there is none.
+    pub fn note_last(&mut self, from: usize, count: usize, columns: &Columns, status: &[u16])
+        requires { (from ≤ count) × (count ≤ 4096) × (count ≤ length columns.now.order.now)
+            × Walkable (lent_columns columns.now) (length status.now)
+            × uses.NoneNoted self.old }
+        ensures { uses.LastUses from count (lent_columns columns.now) status.now self.new.readers self.new.writers
+            × (self.new.settled ≡ self.old.settled) }
+    {
+        for p in from..count {
+            let place = columns.order[p] as usize;
+            let next = (p + 1) as u16;
+            let valid = status[place] == 1;
+            if valid {
+                note_at(
+                    place,
+                    next,
+                    columns.reads,
+                    columns.sources,
+                    &mut self.readers,
+                );
+            }
+            note_at(
+                place,
+                next,
+                columns.writes,
+                columns.targets,
+                &mut self.writers,
+            );
+        }
+    }
+
+    // The last uses from a position on, where they are not noted yet.
+    pub fn note(
+        &mut self,
+        noted: bool,
+        from: usize,
+        count: usize,
+        columns: &Columns,
+        status: &[u16],
+    )
+        requires { uses.Notable noted from count (lent_columns columns.now) (length status.now) self.old }
+        ensures { uses.UsesNoted noted from count (lent_columns columns.now) status.now self.old self.new }
+    {
+        if !noted {
+            self.note_last(from, count, columns, status);
+        }
     }
 }

@@ -9,10 +9,10 @@ use lib.IntN.{ℤ, pos}
 use lib.ListN.{length, get_or, drop}
 use lib.Seq.{drop-cons}
 use mir.Syntax.{w32}
-use mir.Val.{SFits, of_z}
+use mir.Val.{of_z}
 use Rattle.machine.specs.Settings.{Environment, entries}
 use Rattle.model.specs.History.{eq_z, all_hold}
-use Rattle.model.proofs.Values.{same_bits, other-bits}
+use Rattle.model.proofs.Values.{eq_z-refl, other-bits}
 
 -- do the entries from the i-th on hold
 abbrev pub rest_hold : List ℕ → List ℤ → Environment → ℕ → Bool
@@ -28,18 +28,19 @@ module _ (sources : List ℕ) (seen : List ℤ) (env : Environment) where
     unfolding entries
     rest-ends h = let e : length sources - i ≡ 0 = omega arith in rw e
 
-    module _ (h : i < length sources) (g : length sources ≡ length seen) {v : ℤ} (q : v ≡ env (get_or sources i 0)) where
-      rest-first : rest_hold sources seen env i ≡ (eq_z (get_or seen i (pos 0)) v && rest_hold sources seen env (i + 1))
+    -- this turn's setting and value, and the value as of the position
+    module _ {s : ℕ} {u v : ℤ} (h : i < length sources) (g : length sources ≡ length seen) (p : s ≡ get_or sources i 0) (q : u ≡ get_or seen i (pos 0)) (r : v ≡ env s) where
+      rest-first : rest_hold sources seen env i ≡ (eq_z u v && rest_hold sources seen env (i + 1))
       unfolding entries
       rest-first =
           let e : length sources - i ≡ suc (length sources - (i + 1)) = omega arith in
           let k : i < length seen = omega arith in
-          rw (e, drop-cons sources i 0, drop-cons seen i (pos 0), add-one, q)
+          rw (e, drop-cons sources i 0, drop-cons seen i (pos 0), add-one, r, p, q)
 
       -- the i-th holds
-      pub rest-holds : SFits w32 v → SFits w32 (get_or seen i (pos 0)) → of_z w32 v ≡ of_z w32 (get_or seen i (pos 0)) → rest_hold sources seen env (i + 1) ≡ rest_hold sources seen env i
-      rest-holds f f' e = sym (rest-first ∙ rw (same_bits (get_or seen i (pos 0)) v f' f (sym e)))
+      pub rest-holds : v ≡ u → rest_hold sources seen env (i + 1) ≡ rest_hold sources seen env i
+      rest-holds e = sym (rest-first ∙ rw (e, eq_z-refl u))
 
       -- it does not
-      pub rest-fails : (of_z w32 v ≡ of_z w32 (get_or seen i (pos 0)) → ⊥) → false ≡ rest_hold sources seen env i
-      rest-fails n = sym (rest-first ∙ rw (other-bits (get_or seen i (pos 0)) v (λ e. n (sym e))))
+      pub rest-fails : (of_z w32 v ≡ of_z w32 u → ⊥) → false ≡ rest_hold sources seen env i
+      rest-fails n = sym (rest-first ∙ rw (other-bits u v (λ e. n (sym e))))

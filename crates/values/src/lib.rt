@@ -2,130 +2,116 @@
 #![tactic(auto)]
 
 ghost use Rattle.std.specs.Prelude.{◌≡◌, ◌<◌, length};
-ghost use Rattle.machine.specs.Settings.{entries};
+ghost use Rattle.machine.specs.Settings.{Environment, value_in, entries};
 ghost use Rattle.model.specs.History.{all_hold};
 ghost use Rattle.writers.specs.Writers.{OfSettings, WriteLists};
 ghost use Rattle.search.specs.Searches.{PlacesWithin};
-ghost use Rattle.values.specs.Values.{values_below, IsKnown, AllKnown, Lookable, Looked};
+ghost use Rattle.values.specs.Values.{lists_of, values_as_of, IsKnown, AllKnown, Known, Lookable, Looked};
 
 use writers::previous_write;
 
-// The value of a setting as of a position of the order list: that of the previous write, or the kept value.
-pub fn value_below(
-    s: u16,
-    k: usize,
-    order: &[u16],
-    writes: &[u16],
-    targets: &[u16],
-    written: &[i32],
-    kept: &[i32],
-) -> i32
-    requires { PlacesWithin k order.now (length writes.now)
-        × WriteLists writes.now targets.now written.now
-        × (s < length kept.now) }
-    ensures { result ≡ values_below order.now writes.now targets.now written.now kept.now k s }
-{
-    previous_write(s, k, order, writes, targets, written).unwrap_or(kept[s as usize])
+// What the values as of a position of the order list are looked up in: the order list, the write lists by place, and the kept values.
+#[derive(Clone, Copy, Drop)]
+pub struct History<'a> {
+    pub order: &'a [u16],
+    pub writes: &'a [u16],
+    pub targets: &'a [u16],
+    pub written: &'a [i32],
+    pub kept: &'a [i32],
 }
 
-// The value of a setting as of a position: the known one, or one that is searched for and then known.
-pub fn value_of(
-    s: u16,
-    k: usize,
-    order: &[u16],
-    writes: &[u16],
-    targets: &[u16],
-    written: &[i32],
-    kept: &[i32],
-    before: &mut [i32; 1024],
-    after: &mut [i32; 1024],
-    known: &mut [u8; 1024],
-) -> i32
-    requires { (s < 1024)
-        × Lookable k order.now writes.now targets.now written.now kept.now known.old before.old after.old }
-    ensures { let env = values_below order.now writes.now targets.now written.now kept.now k in
-        (result ≡ env s)
-        × IsKnown known.new s
-        × Looked env known.old known.new before.new after.new }
-{
-    let x = s as usize;
-    if known[x] != 0 {
-        return after[x];
+impl History<'_> {
+    // The value of a setting as of a position of the order list: that of the previous write, or the kept value.
+    pub fn value_below(&self, s: u16, k: usize) -> i32
+        requires { let h = lists_of self.now in
+            PlacesWithin k h.order (length h.writes)
+            × WriteLists h.writes h.targets h.written
+            × (s < length h.kept) }
+        ensures { result ≡ values_as_of (lists_of self.now) k s }
+    {
+        previous_write(s, k, self.order, self.writes, self.targets, self.written)
+            .unwrap_or(self.kept[s as usize])
     }
-    let v = value_below(s, k, order, writes, targets, written, kept);
-    before[x] = v;
-    after[x] = v;
-    known[x] = 1;
-    v
 }
 
-// Whether each of the values seen is the value as of a position.
-pub fn seen_hold(
-    sources: &[u16],
-    seen: &[i32],
-    k: usize,
-    order: &[u16],
-    writes: &[u16],
-    targets: &[u16],
-    written: &[i32],
-    kept: &[i32],
-    before: &mut [i32; 1024],
-    after: &mut [i32; 1024],
-    known: &mut [u8; 1024],
-) -> bool
-    requires { (length sources.now ≡ length seen.now)
-        × OfSettings sources.now
-        × Lookable k order.now writes.now targets.now written.now kept.now known.old before.old after.old }
-    ensures { let env = values_below order.now writes.now targets.now written.now kept.now k in
-        (result ≡ all_hold (entries (length sources.now) sources.now seen.now) env)
-        × Looked env known.old known.new before.new after.new }
-{
-    let mut i = 0;
-    while i < sources.len() {
-        let v = value_of(
-            sources[i], k, order, writes, targets, written, kept, before, after, known,
-        );
-        if v != seen[i] {
-            return false;
+// Of each setting whether its value is known, and the values before and after a change; both are the same where there is no change yet.
+#[derive(Drop)]
+pub struct KnownValues {
+    pub known: [bool; 1024],
+    pub before: [i32; 1024],
+    pub after: [i32; 1024],
+}
+
+impl KnownValues {
+    // No value is known.
+    pub fn none() -> Self
+        ensures { (env : Environment) → Known env result }
+    {
+        KnownValues {
+            known: [false; 1024],
+            before: [0; 1024],
+            after: [0; 1024],
         }
-        i += 1;
     }
-    true
-}
 
-// The values of some settings as of a position are known from now on.
-pub fn know_list(
-    settings: &[u16],
-    k: usize,
-    order: &[u16],
-    writes: &[u16],
-    targets: &[u16],
-    written: &[i32],
-    kept: &[i32],
-    before: &mut [i32; 1024],
-    after: &mut [i32; 1024],
-    known: &mut [u8; 1024],
-)
-    requires { OfSettings settings.now
-        × Lookable k order.now writes.now targets.now written.now kept.now known.old before.old after.old }
-    ensures { let env = values_below order.now writes.now targets.now written.now kept.now k in
-        AllKnown known.new settings.now
-        × Looked env known.old known.new before.new after.new }
-{
-    let mut i = 0;
-    while i < settings.len() {
-        value_of(
-            settings[i],
-            k,
-            order,
-            writes,
-            targets,
-            written,
-            kept,
-            before,
-            after,
-            known,
-        );
-        i += 1;
+    // Every value is known: those of a list, before and after.
+    pub fn all(values: &[i32]) -> Self
+        requires { length values.now ≡ 1024 }
+        ensures { Known (value_in values.now) result }
+    {
+        let mut all = KnownValues {
+            known: [true; 1024],
+            before: [0; 1024],
+            after: [0; 1024],
+        };
+        all.before.copy_from_slice(values);
+        all.after.copy_from_slice(values);
+        all
+    }
+
+    // The value of a setting as of a position: the known one, or one that is searched for and then known.
+    pub fn value_of(&mut self, s: u16, k: usize, history: &History) -> i32
+        requires { (s < 1024) × Lookable k (lists_of history.now) self.old }
+        ensures { let env = values_as_of (lists_of history.now) k in
+            (result ≡ env s) × IsKnown self.new s × Looked env self.old self.new }
+    {
+        let x = s as usize;
+        if self.known[x] {
+            return self.after[x];
+        }
+        let v = history.value_below(s, k);
+        self.before[x] = v;
+        self.after[x] = v;
+        self.known[x] = true;
+        v
+    }
+
+    // Whether each of the values seen is the value as of a position.
+    pub fn seen_hold(&mut self, sources: &[u16], seen: &[i32], k: usize, history: &History) -> bool
+        requires { (length sources.now ≡ length seen.now)
+            × OfSettings sources.now
+            × Lookable k (lists_of history.now) self.old }
+        ensures { let env = values_as_of (lists_of history.now) k in
+            (result ≡ all_hold (entries (length sources.now) sources.now seen.now) env)
+            × Looked env self.old self.new }
+    {
+        for (s, v) in sources.iter().zip(seen) {
+            let holds = self.value_of(*s, k, history) == *v;
+            if !holds {
+                return false;
+            }
+        }
+        true
+    }
+
+    // The values of some settings as of a position are known from now on.
+    pub fn know_list(&mut self, settings: &[u16], k: usize, history: &History)
+        requires { OfSettings settings.now × Lookable k (lists_of history.now) self.old }
+        ensures { let env = values_as_of (lists_of history.now) k in
+            AllKnown self.new settings.now × Looked env self.old self.new }
+    {
+        for s in settings {
+            self.value_of(*s, k, history);
+        }
     }
 }

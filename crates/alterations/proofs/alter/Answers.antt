@@ -1,10 +1,8 @@
--- `alterations::alter` meets its contract: the parts that it lends are the old and the new writes. Assumes nothing.
-use Rattle.std.proofs.Common.{arith}
-use Rattle.values.proofs.Parts.{part-entries, first-entries}
+-- The part of the write list that is lent is the old writes.
+use Rattle.std.proofs.Common.{refl}
+use Rattle.values.proofs.Parts.{write-entries}
 use Rattle.alterations.proofs.Alters.{altered-by}
 use Rattle.alterations.proofs.alter.Goals as goal
 
 pub returns : goal.returns
-returns c =
-    let a = c.args in
-    altered-by (part-entries a.writes.now a.targets.now a.written.now _ (omega arith) (omega arith)) (first-entries a.size a.new_targets.now a.new_written.now (omega arith) (omega arith)) c.alter_writes.ensures
+returns c = altered-by (write-entries c.requires.2.listed _ c.requires.0.at.place) refl c.alter_writes.ensures

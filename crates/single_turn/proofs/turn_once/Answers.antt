@@ -8,10 +8,10 @@ pub waiting-requires : goal.waiting-requires
 waiting-requires c = placed-status c.requires.so
 
 pub turn_at-requires : goal.turn_at-requires
-turn_at-requires c = record { others = c.requires.others; so = turn-single c.requires.so (found_at _ c.waiting.ensures c.in-Some.is) }
+turn_at-requires c = record { others = c.requires.others; so = turn-single c.requires.so (found_at _ c.waiting.ensures c.in-Some.is) c.none-values.ensures c.none-uses.ensures }
 
 pub returns-in-Some : goal.returns-in-Some
-returns-in-Some c T g = (c.turn_at.ensures T (turn-single g (found_at _ c.waiting.ensures c.in-Some.is))).0
+returns-in-Some c T g = (c.turn_at.ensures T (turn-single g (found_at _ c.waiting.ensures c.in-Some.is) c.none-values.ensures c.none-uses.ensures)).0
 
 pub returns-in-None : goal.returns-in-None
 returns-in-None c T g = turn-idle g (found_nothing _ c.waiting.ensures c.in-None.is)

@@ -15,7 +15,7 @@ pub turn_at-requires : goal.turn_at-requires
 turn_at-requires c =
     let a = c.args in
     lend c.requires.formed c.held_count.ensures
-    (λ T. Turnable a.noted a.k T a.known.now a.before.now a.after.now a.readers.now a.writers.now a.settled.now)
+    (λ T. Turnable a.noted a.k T a.values.now a.uses.now)
     c.requires
 
 pub returns : goal.returns
@@ -23,6 +23,6 @@ returns c =
     let a = c.args in
     let b = c.turn_at.new in
     told c.requires.formed c.held_count.ensures
-    (λ T. Turnable a.noted a.k T a.known.now a.before.now a.after.now a.readers.now a.writers.now a.settled.now)
-    (λ left T. (reply c.turn_at.result left ≡ turned T) × (a.noted ≡ true → Going (a.k + 1) left b.known b.before b.after b.readers b.writers b.settled))
+    (λ T. Turnable a.noted a.k T a.values.now a.uses.now)
+    (λ left T. (reply c.turn_at.result left ≡ turned T) × (a.noted ≡ true → Going (a.k + 1) left b.values b.uses))
     c.turn_at.ensures c.requires
