@@ -1,5 +1,5 @@
 -- Two answers of the code that are the same to the definitions are the same: no two refusals have the same number, and none has 0.
-use Rattle.std.specs.Prelude.{◌≡◌, refl, ℕ, ℤ, List, [], ◌∷◌, get_or, Result, Ok, Err}
+use Rattle.std.specs.Prelude.{◌≡◌, refl, ℕ, ℤ, [], ◌∷◌, get_or, Result, Ok, Err}
 use Rattle.std.proofs.Common.{sym, ap, ◌∙◌, arith}
 use Rattle.model.specs.declared.Refusal.{Refusal}
 use Rattle.model.specs.declared.Refusal.TheVariants.{WrongLengths, NotInForm, NotLaidOut, NoTimestamp, NoSetting, WrongProgramLength, Malformed, HeldOtherwise, Full, NotHeld, WithdrawnAlready, NoRoom, NoVersion, BelowCutoff, UnsettledBelow}
