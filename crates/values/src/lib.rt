@@ -29,8 +29,9 @@ impl History<'_> {
             × (s < length h.kept) }
         ensures { result ≡ values_as_of (lists_of self.now) k s }
     {
-        previous_write(s, k, self.order, self.writes, self.targets, self.written)
-            .unwrap_or(self.kept[s as usize])
+        previous_write(s, k, self.order, self.writes, self.targets, self.written).unwrap_or(
+            self.kept[s as usize],
+        )
     }
 }
 

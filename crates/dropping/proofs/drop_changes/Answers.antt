@@ -7,8 +7,7 @@ pub carry_first-requires : goal.carry_first-requires
 carry_first-requires c =
     let w = c.requires.0.wrote in
     let n = c.held_count-count.result in
-    let within = rank-within c.args.order.now c.args.timestamps.now c.args.timestamp n in
-    (
+    let within = rank-within c.args.order.now c.args.timestamps.now c.args.timestamp n in (
       record {
         placed = record { long = omega (arith, w.placed.long); below = λ j q. w.placed.below j (omega arith) };
         listed = w.listed;
