@@ -34,18 +34,6 @@ lent-slots s place counts settings n l =
     ap (holds s) (lent-first place 32 settings)
     ∙ zeros-name s n (get_or counts place 0) 32 (drop (32 * place) settings) l.short (λ j a b. get_or-drop (32 * place) settings j 0 ∙ l.rest j a b)
 
--- ---- a place marked
-
-module _ (s place : ℕ) (counts sources status : List ℕ) where
-  pub marked : get_or status place 0 ≡ 1 → holds s (list_at counts sources place) ≡ true → set status place 2 ≡ marked_place s counts sources place status
-  marked v e = rw (v, e)
-
-  pub unread : get_or status place 0 ≡ 1 → holds s (list_at counts sources place) ≡ false → status ≡ marked_place s counts sources place status
-  unread v e = rw (v, e)
-
-  pub not_valid : (get_or status place 0 ≡ 1 → ⊥) → status ≡ marked_place s counts sources place status
-  not_valid v = rw (ne_eqb (get_or status place 0) 1 v)
-
 -- ---- along the order list
 
 -- from position p up to the last the definitions give what they give of the whole walk

@@ -16,20 +16,6 @@ use Rattle.uses.specs.Uses.{numbered}
 pub lent-list : (place : ℕ) (counts settings : List ℕ) → take (32 * place + get_or counts place 0 - 32 * place) (drop (32 * place) settings) ≡ list_at counts settings place
 lent-list place counts settings = lent-first place (get_or counts place 0) settings
 
--- ---- along the order list
-
-module _ {C : Columns} {places : ℕ} (w : Walkable C places) (p : ℕ) where
-  -- the lists of the change at a position
-  pub reads-listed : Listed (get_or C.order p 0) C.reads C.sources
-  reads-listed =
-      let h = w.below p in
-      record { counted = omega (arith, w.read-counts); short = w.reads_short _ h; room = omega (arith, w.read-slots); rest = w.read-rest _ h }
-
-  pub writes-listed : Listed (get_or C.order p 0) C.writes C.targets
-  writes-listed =
-      let h = w.below p in
-      record { counted = omega (arith, w.write-counts); short = w.writes_short _ h; room = omega (arith, w.write-slots); rest = w.write-rest _ h }
-
 -- ---- numbers stored for the settings of a list
 
 module _ (settings : List ℕ) (v : ℕ) (j : ℕ) (numbers : List ℕ) where

@@ -37,14 +37,6 @@ pub record KnownTo (settings : List ℕ) (i : ℕ) (env : Environment) (earlier 
   pub looked : Looked env earlier v
   pub each : (j : ℕ) → j < i → IsKnown v (get_or settings j 0)
 
-module _ {settings : List ℕ} {env : Environment} {earlier : KnownValues} where
-  pub known-to-none : Known env earlier → KnownTo settings 0 env earlier earlier
-  known-to-none h = record { looked = looked-none h; each = λ j q. absurd (omega arith) }
-
-  pub known-to-more : {i : ℕ} {between v : KnownValues} → IsKnown v (get_or settings i 0) → Looked env between v → KnownTo settings i env earlier between → KnownTo settings (i + 1) env earlier v
-  known-to-more {i} {between} {v} q h g =
-      record { looked = looked-more g.looked h; each = below_more (λ j. IsKnown v (get_or settings j 0)) i (λ j p. h.kept _ (g.each j p)) q }
-
 -- ---- none is known
 
 pub none-known : (env : Environment) (v : KnownValues) → v.known ≡ replicate 1024 false → v.before ≡ replicate 1024 (pos 0) → v.after ≡ replicate 1024 (pos 0) → Known env v
