@@ -3,11 +3,10 @@ use mathlib.Core.Path.{◌≡◌, sym, ap}
 use mathlib.Core.List.{List}
 use Prim.Native.Nat.{ℕ, ◌+◌, ◌-◌, ◌*◌, ◌<◌, ◌≤◌}
 use native.Mathlib.Numerals.{add-one}
-use native.Mathlib.Omega.{arith}
 use lib.ListN.{length, get_or, set, take, drop, drop_of_length-le}
 use lib.Seq.{drop-cons}
 use Rattle.writers.proofs.Named.{lent-first}
-use Rattle.uses.specs.Columns.{Columns, list_at, Listed, Walkable}
+use Rattle.uses.specs.Columns.{list_at}
 use Rattle.uses.specs.Uses.{numbered}
 
 -- ---- a list of settings
