@@ -2,23 +2,20 @@
 use mathlib.Core.Path.{◌≡◌, sym, ap, subst, ◌∙◌}
 use mathlib.Core.Bool.{Bool, false}
 use mathlib.Core.List.{List, []}
-use Prim.Native.Nat.{ℕ, ◌+◌, ◌-◌, ◌*◌, ◌≤◌}
+use Prim.Native.Nat.{ℕ}
 use native.Mathlib.Omega.{arith}
 use lib.IntN.{ℤ}
-use lib.ListN.{length, get_or, take, drop}
-use lib.Seq.{take_all, length-take-le}
+use lib.ListN.{length, get_or}
+use lib.Seq.{take_all}
 use Rattle.machine.specs.Settings.{Environment, Entry, carry, entries}
-use Rattle.general.proofs.Parts.{part}
 use Rattle.model.specs.History.{Lists}
 use Rattle.model.specs.Tables.{settings_of}
 use Rattle.model.proofs.Entries.{settings-entries}
-use Rattle.writers.specs.Writers.{OfSettings, WriteLists}
 use Rattle.values.specs.declared.KnownValues.{KnownValues}
-use Rattle.values.specs.Values.{HistoryLists, AllKnown, Looked}
+use Rattle.values.specs.Values.{AllKnown, Looked}
 use Rattle.differences.specs.Differences.{Collected}
 use Rattle.differences.proofs.Replaced.{Replacing, all-kept, replacing, collected-settings, collected-differs, collected-new}
-use Rattle.values.proofs.Parts.{part-settings, write-length, same-writes}
-use Rattle.alterations.specs.Altered.{BothWrites, Alterable, Altered}
+use Rattle.alterations.specs.Altered.{BothWrites, Altered}
 
 -- ---- what changes
 

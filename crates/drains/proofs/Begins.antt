@@ -5,7 +5,6 @@ use mathlib.Core.List.{List}
 use mathlib.Core.Option.{none, some}
 use Prim.Native.Nat.{ℕ, ◌+◌, ◌<◌, ◌≤◌}
 use native.Mathlib.Omega.{arith}
-use lib.IntN.{ℤ}
 use lib.ListN.{length, get_or, replicate}
 use Rattle.model.specs.Drain.{total_count}
 use Rattle.model.specs.Tables.{Tables, held_count}
@@ -21,7 +20,7 @@ use Rattle.values.specs.declared.KnownValues.{KnownValues}
 use Rattle.values.specs.Values.{history_lists, Known}
 use Rattle.uses.specs.Columns.{columns_of, Walkable}
 use Rattle.uses.specs.declared.SettingUses.{SettingUses}
-use Rattle.uses.specs.Uses.{NoneNoted, LastUses}
+use Rattle.uses.specs.Uses.{NoUses, NoneNoted, LastUses}
 use Rattle.marking_laws.proofs.Model.{walkable-form, uses-first, uses-passed}
 use Rattle.turns.specs.Turns.{Going}
 use Rattle.passing.specs.Drained.{drained}
@@ -49,8 +48,8 @@ module _ {T : Tables} {first : ℕ} (g : Formed (length T.order) T) (w : waiting
       }
 
   -- and `note_last`
-  pub uses-above : {u : SettingUses} → NoneNoted u → (first ≤ held_count T) × (held_count T ≤ 4096) × (held_count T ≤ length T.order) × Walkable (columns_of T) (length T.status) × NoneNoted u
-  uses-above z = (omega (arith, within), omega (arith, (facts g).form.small, (facts g).sizes.capacity), omega (arith, (facts g).form.small), walkable-form g, z)
+  pub uses-above : {u : SettingUses} → NoneNoted u → (first ≤ held_count T) × (held_count T ≤ 4096) × (held_count T ≤ length T.order) × Walkable (columns_of T) (length T.status) × NoUses u
+  uses-above z = (omega (arith, within), omega (arith, (facts g).form.small, (facts g).sizes.capacity), omega (arith, (facts g).form.small), walkable-form g, z.uses)
 
   -- what is known before its turn
   pub going-first :

@@ -7,7 +7,7 @@ use native.Mathlib.Numerals.{add-one}
 use native.Mathlib.Omega.{arith}
 use borrow.Author.Tests.{ne_eqb}
 use lib.Dec.{eqb}
-use lib.ListN.{length, get_or, set, take, drop}
+use lib.ListN.{length, get_or, take, drop}
 use lib.Seq.{get_or-drop}
 use Rattle.model.specs.Form.{holds}
 use Rattle.writers.proofs.Named.{lent-first}
@@ -33,18 +33,6 @@ pub lent-slots : (s place : ℕ) (counts settings : List ℕ) → (s ≡ 0 → �
 lent-slots s place counts settings n l =
     ap (holds s) (lent-first place 32 settings)
     ∙ zeros-name s n (get_or counts place 0) 32 (drop (32 * place) settings) l.short (λ j a b. get_or-drop (32 * place) settings j 0 ∙ l.rest j a b)
-
--- ---- a place marked
-
-module _ (s place : ℕ) (counts sources status : List ℕ) where
-  pub marked : get_or status place 0 ≡ 1 → holds s (list_at counts sources place) ≡ true → set status place 2 ≡ marked_place s counts sources place status
-  marked v e = rw (v, e)
-
-  pub unread : get_or status place 0 ≡ 1 → holds s (list_at counts sources place) ≡ false → status ≡ marked_place s counts sources place status
-  unread v e = rw (v, e)
-
-  pub not_valid : (get_or status place 0 ≡ 1 → ⊥) → status ≡ marked_place s counts sources place status
-  not_valid v = rw (ne_eqb (get_or status place 0) 1 v)
 
 -- ---- along the order list
 

@@ -127,7 +127,7 @@ module _ {n : ℕ} {T : Tables} (g : Formed n T) where
         small = omega (arith, (facts g).form.small, l.capacity);
         listed = omega (arith, (facts g).form.small, l.order);
         walkable = walkable-form;
-        none = d.none;
+        none = λ e. (d.none e).uses;
       }
 
   -- for `mark_settings`

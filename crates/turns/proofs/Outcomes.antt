@@ -1,6 +1,6 @@
 -- The turn of the change at a position of tables in form, outcome by outcome: it stood, or its lists were replaced.
 use mathlib.Core.Path.{◌≡◌, refl, sym, ap, ap₂, subst, subst⁻¹, ◌∙◌}
-use mathlib.Core.Bool.{Bool, true, false, cond, not}
+use mathlib.Core.Bool.{Bool, true, cond, not}
 use mathlib.Core.List.{List, [], ◌∷◌, ◌++◌}
 use mathlib.Core.Option.{some}
 use Prim.Native.Nat.{ℕ, ◌+◌, ◌<◌, ◌≤◌}
@@ -10,11 +10,10 @@ use lib.ListN.{length, get_or, set, take}
 use Rattle.machine.specs.Settings.{setting_count, Environment, Entry, value_in, entries, after}
 use Rattle.machine.specs.Instruction.{Code, code}
 use Rattle.machine.specs.Run.{Outcome, run}
-use Rattle.general.proofs.Cases.{impossible, true-is-not-false}
 use Rattle.run_record.specs.declared.Run.{Run}
 use Rattle.run_record.specs.Record.{ending_of}
 use Rattle.model.specs.Answers.{Turned}
-use Rattle.model.specs.History.{Valid, Lists, empty, run_lists, Change, change, timestamp, program, status, withdrawn, lists, all_settings, eq_z}
+use Rattle.model.specs.History.{Valid, Lists, empty, run_lists, Change, change, timestamp, program, withdrawn, lists, all_settings, eq_z}
 use Rattle.model.specs.Figure.{Event, stood, turned}
 use Rattle.model.specs.Walk.{differs, mark_live, live_at_end}
 use Rattle.model.specs.Cabinet.{with_history}

@@ -1,9 +1,7 @@
 -- What the code of a turn relies on at a position of tables in form.
 use mathlib.Core.Path.{◌≡◌, sym, ◌∙◌}
-use mathlib.Core.List.{List}
 use Prim.Native.Nat.{ℕ, ◌+◌, ◌<◌, ◌≤◌}
 use native.Mathlib.Omega.{arith}
-use lib.IntN.{ℤ}
 use lib.ListN.{length, get_or}
 use Rattle.model.specs.Tables.{Tables, held_count, slots}
 use Rattle.model.specs.Form.{Formed}

@@ -3,11 +3,10 @@ use mathlib.Core.Path.{◌≡◌, sym, ap}
 use mathlib.Core.List.{List}
 use Prim.Native.Nat.{ℕ, ◌+◌, ◌-◌, ◌*◌, ◌<◌, ◌≤◌}
 use native.Mathlib.Numerals.{add-one}
-use native.Mathlib.Omega.{arith}
 use lib.ListN.{length, get_or, set, take, drop, drop_of_length-le}
 use lib.Seq.{drop-cons}
 use Rattle.writers.proofs.Named.{lent-first}
-use Rattle.uses.specs.Columns.{Columns, list_at, Listed, Walkable}
+use Rattle.uses.specs.Columns.{list_at}
 use Rattle.uses.specs.Uses.{numbered}
 
 -- ---- a list of settings
@@ -15,20 +14,6 @@ use Rattle.uses.specs.Uses.{numbered}
 -- the list of a place, as it is lent: from its first slot up to its count
 pub lent-list : (place : ℕ) (counts settings : List ℕ) → take (32 * place + get_or counts place 0 - 32 * place) (drop (32 * place) settings) ≡ list_at counts settings place
 lent-list place counts settings = lent-first place (get_or counts place 0) settings
-
--- ---- along the order list
-
-module _ {C : Columns} {places : ℕ} (w : Walkable C places) (p : ℕ) where
-  -- the lists of the change at a position
-  pub reads-listed : Listed (get_or C.order p 0) C.reads C.sources
-  reads-listed =
-      let h = w.below p in
-      record { counted = omega (arith, w.read-counts); short = w.reads_short _ h; room = omega (arith, w.read-slots); rest = w.read-rest _ h }
-
-  pub writes-listed : Listed (get_or C.order p 0) C.writes C.targets
-  writes-listed =
-      let h = w.below p in
-      record { counted = omega (arith, w.write-counts); short = w.writes_short _ h; room = omega (arith, w.write-slots); rest = w.write-rest _ h }
 
 -- ---- numbers stored for the settings of a list
 

@@ -59,10 +59,14 @@ pub record Uses (from : ℕ) (T : Tables) (u : SettingUses) : Type 0 where
   pub writers-end : WritersEnd from (held_count T) (columns_of T) u.writers
   pub settled-to : Settled from (columns_of T) T.status u.readers u.settled
 
--- nothing is noted
-pub record NoneNoted (u : SettingUses) : Type 0 where
+-- no uses are noted
+pub record NoUses (u : SettingUses) : Type 0 where
   pub readers : Numbers u.readers (λ s. 0)
   pub writers : Numbers u.writers (λ s. 0)
+
+-- nothing is noted
+pub record NoneNoted (u : SettingUses) : Type 0 where
+  pub uses : NoUses u
   pub settled : Numbers u.settled (λ s. 0)
 
 -- what is noted of the settings: all that is needed, or nothing yet
@@ -76,7 +80,7 @@ pub record Notable (noted : Bool) (from count : ℕ) (C : Columns) (places : ℕ
   pub small : count ≤ 4096
   pub listed : count ≤ length C.order
   pub walkable : Walkable C places
-  pub none : noted ≡ false → NoneNoted u
+  pub none : noted ≡ false → NoUses u
 
 -- what it gives: the numbers as they were, where they were noted, or the last uses
 pub record UsesNoted (noted : Bool) (from count : ℕ) (C : Columns) (status : List ℕ) (u u' : SettingUses) : Type 0 where

@@ -69,7 +69,7 @@ impl SettingUses {
     pub fn note_last(&mut self, from: usize, count: usize, columns: &Columns, status: &[u16])
         requires { (from ≤ count) × (count ≤ 4096) × (count ≤ length columns.now.order.now)
             × Walkable (lent_columns columns.now) (length status.now)
-            × uses.NoneNoted self.old }
+            × uses.NoUses self.old }
         ensures { uses.LastUses from count (lent_columns columns.now) status.now self.new.readers self.new.writers
             × (self.new.settled ≡ self.old.settled) }
     {

@@ -2,9 +2,7 @@
 use mathlib.Core.Path.{◌≡◌, refl, sym, ap, fun_ext, ◌∙◌}
 use mathlib.Core.Bool.{Bool, true, false}
 use mathlib.Core.List.{List}
-use Prim.Native.Nat.{ℕ, suc, ◌+◌, ◌<◌}
-use native.Mathlib.Omega.{arith}
-use borrow.Author.Count.{below_more}
+use Prim.Native.Nat.{ℕ, suc, ◌<◌}
 use lib.IntN.{ℤ, pos}
 use lib.ListN.{length, get_or, replicate, length-replicate, get_or-replicate}
 use Rattle.machine.specs.Settings.{setting_count, Environment, Entry, value_in, ◌or_else◌, lookup, after, carry}
@@ -36,14 +34,6 @@ module _ {env : Environment} where
 pub record KnownTo (settings : List ℕ) (i : ℕ) (env : Environment) (earlier v : KnownValues) : Type 0 where
   pub looked : Looked env earlier v
   pub each : (j : ℕ) → j < i → IsKnown v (get_or settings j 0)
-
-module _ {settings : List ℕ} {env : Environment} {earlier : KnownValues} where
-  pub known-to-none : Known env earlier → KnownTo settings 0 env earlier earlier
-  known-to-none h = record { looked = looked-none h; each = λ j q. absurd (omega arith) }
-
-  pub known-to-more : {i : ℕ} {between v : KnownValues} → IsKnown v (get_or settings i 0) → Looked env between v → KnownTo settings i env earlier between → KnownTo settings (i + 1) env earlier v
-  known-to-more {i} {between} {v} q h g =
-      record { looked = looked-more g.looked h; each = below_more (λ j. IsKnown v (get_or settings j 0)) i (λ j p. h.kept _ (g.each j p)) q }
 
 -- ---- none is known
 

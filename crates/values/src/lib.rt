@@ -1,7 +1,7 @@
 // The values as of a position of the order list: looked up once each, and then known.
 #![tactic(auto)]
 
-ghost use Rattle.std.specs.Prelude.{◌≡◌, ◌<◌, length};
+ghost use Rattle.std.specs.Prelude.{◌≡◌, ℕ, ◌<◌, length};
 ghost use Rattle.machine.specs.Settings.{Environment, value_in, entries};
 ghost use Rattle.model.specs.History.{all_hold};
 ghost use Rattle.writers.specs.Writers.{OfSettings, WriteLists};
@@ -58,7 +58,8 @@ impl KnownValues {
     // Every value is known: those of a list, before and after.
     pub fn all(values: &[i32]) -> Self
         requires { length values.now ≡ 1024 }
-        ensures { Known (value_in values.now) result }
+        ensures right { Known (value_in values.now) result }
+        ensures known { (s : ℕ) → s < 1024 → IsKnown result s }
     {
         let mut all = KnownValues {
             known: [true; 1024],

@@ -18,10 +18,10 @@ pass_from-requires c = (
   omega (arith, within c.requires.0.so.0 c.requires.0.so.1),
   record {
     others = c.requires.0.others;
-    so = going-first c.requires.0.so.0 c.requires.0.so.1 c.all-values.ensures c.carry_below.ensures c.none-uses.ensures c.note_last.ensures;
+    so = going-first c.requires.0.so.0 c.requires.0.so.1 c.all-values.ensures.right c.carry_below.ensures c.none-uses.ensures c.note_last.ensures;
   },
   c.requires.1,
 )
 
 pub returns : goal.returns
-returns c T g = c.pass_from.ensures T (going-first g c.requires.0.so.1 c.all-values.ensures c.carry_below.ensures c.none-uses.ensures c.note_last.ensures)
+returns c T g = c.pass_from.ensures T (going-first g c.requires.0.so.1 c.all-values.ensures.right c.carry_below.ensures c.none-uses.ensures c.note_last.ensures)

@@ -1,5 +1,5 @@
 -- Where there is no walk, a walk would mark nothing.
-use Rattle.std.proofs.Common.{arith, refl, ◌≤◌}
+use Rattle.std.proofs.Common.{arith, refl}
 use Rattle.marking.proofs.Settling.{no_reader, settled-already, end_below, walk-settles}
 use Rattle.marking.proofs.mark_unsettled.Goals as goal
 

@@ -1,6 +1,5 @@
 -- Of setting 0 the list is looked through, of any other the 32 slots, which name the same settings other than 0.
-use Rattle.std.proofs.Common.{◌∙◌, ap}
-use Rattle.model.specs.Form.{holds}
+use Rattle.std.proofs.Common.{◌∙◌}
 use Rattle.marking.proofs.Steps.{lent-slots}
 use Rattle.marking.proofs.names_at.Goals as goal
 

@@ -1,5 +1,4 @@
 -- One change further, and past the last.
-use Rattle.std.proofs.Common.{arith}
 use Rattle.passing.proofs.Drains.{totals-small}
 use Rattle.passing.proofs.Pass.{pass-begins, pass-next, pass-ends}
 use Rattle.passing.proofs.pass_from.Goals as goal

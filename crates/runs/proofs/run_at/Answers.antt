@@ -1,7 +1,6 @@
 -- One instruction is carried out, or the run has ended.
 use Rattle.std.proofs.Common.{rules, ◌≡◌, arith}
 use borrow.Author.Rules.{sfits_of}
-use Rattle.machine.specs.Settings.{Environment}
 use Rattle.machine.specs.Instruction.{instruction_at}
 use Rattle.machine.specs.Run.{effect}
 use Rattle.interpreter.proofs.Loop.{operands, performable, ready, asked, begins, ends, goes_on, has_ended}

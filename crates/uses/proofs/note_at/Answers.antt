@@ -1,6 +1,5 @@
 -- The part of the table that is lent is the place's list.
-use Rattle.std.proofs.Common.{◌∙◌, ap, sym, subst, List, ℕ}
-use Rattle.writers.specs.Writers.{OfSettings}
+use Rattle.std.proofs.Common.{◌∙◌, ap, List, ℕ}
 use Rattle.uses.specs.Uses.{numbered}
 use Rattle.uses.proofs.Lists.{lent-list}
 use Rattle.uses.proofs.note_at.Goals as goal

@@ -3,4 +3,4 @@ use Rattle.uses.proofs.LastUses.{numbers-new}
 use Rattle.uses.proofs.SettingUses.none.Goals as goal
 
 pub returns : goal.returns
-returns c = record { readers = numbers-new; writers = numbers-new; settled = numbers-new }
+returns c = record { uses = record { readers = numbers-new; writers = numbers-new }; settled = numbers-new }
