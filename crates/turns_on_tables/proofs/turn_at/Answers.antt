@@ -2,6 +2,7 @@
 use mathlib.Core.Path.{◌≡◌}
 use mathlib.Core.Bool.{true}
 use Prim.Native.Nat.{◌+◌}
+use Rattle.model.specs.Answers.{as_turn}
 use Rattle.model.specs.Calls.{reply}
 use Rattle.model.proofs.Form.{facts}
 use Rattle.turns.specs.Turns.{turned, Going, Turnable}
@@ -24,5 +25,5 @@ returns c =
     let b = c.turn_at.new in
     told c.requires.formed c.held_count.ensures
     (λ T. Turnable a.noted a.k T a.values.now a.uses.now)
-    (λ left T. (reply c.turn_at.result left ≡ turned T) × (a.noted ≡ true → Going (a.k + 1) left b.values b.uses))
+    (λ left T. (reply (as_turn c.turn_at.result) left ≡ turned T) × (a.noted ≡ true → Going (a.k + 1) left b.values b.uses))
     c.turn_at.ensures c.requires
