@@ -13,7 +13,7 @@ use Rattle.model.specs.Tables.{list_in}
 use Rattle.values.specs.declared.KnownValues.{KnownValues}
 use Rattle.values.specs.Values.{HistoryLists, values_below, IsKnown, Known}
 use Rattle.values.proofs.Known.{carried-at, values-first, values-next}
-use Rattle.carrying.specs.Carrying.{Carried, carried_first, CarriedBelow}
+use Rattle.carrying.specs.Carrying.{Carried, carried_first, knowing, CarriedBelow}
 
 -- writes carried into both lists of values are carried into the environment
 pub known_carried : {env : Environment} {v v' : KnownValues} {writes : List Entry} → Known env v → Carried writes v v' → Known (after writes env) v'
@@ -55,7 +55,14 @@ module _ (writes : ℕ → List Entry) (order : List ℕ) (values₀ : List ℤ)
 module _ (h : HistoryLists) {v : KnownValues} where
   pub below_none : CarriedBelow 0 h v v
   below_none =
-      record { right = λ kept q. subst (λ (env : Environment). Known env v) (sym (values-first h.order h.writes h.targets h.written kept)) q }
+      record { known = refl; right = λ kept known q. subst (λ (env : Environment). Known env (knowing known v)) (sym (values-first h.order h.writes h.targets h.written kept)) q }
 
   pub below-more : (j : ℕ) {place : ℕ} {v₁ v₂ : KnownValues} → CarriedBelow j h v v₁ → place ≡ get_or h.order j 0 → Carried (list_in h.writes h.targets h.written place) v₁ v₂ → CarriedBelow (j + 1) h v v₂
-  below-more j b p c = record { right = λ kept q. rw (add-one j) (known_next h.order h.writes h.targets h.written kept j (b.right kept q) (rw p at c)) }
+  below-more j {v₁ = v₁} {v₂ = v₂} b p c =
+      record {
+        known = c.known ∙ b.known;
+        right = λ kept known q.
+            let d : Carried (list_in h.writes h.targets h.written (get_or h.order j 0)) v₁ v₂ = rw p at c in
+            let e : Carried (list_in h.writes h.targets h.written (get_or h.order j 0)) (knowing known v₁) (knowing known v₂) = record { known = refl; before-is = d.before-is; after_is = d.after_is } in
+            rw (add-one j) (known_next h.order h.writes h.targets h.written kept j (b.right kept known q) e);
+      }

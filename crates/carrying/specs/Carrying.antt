@@ -1,5 +1,5 @@
 -- Writes carried into one list of values, and into two.
-use Rattle.std.specs.Prelude.{◌≡◌, List, ℕ, zero, suc, ◌<◌, ℤ, length, get_or}
+use Rattle.std.specs.Prelude.{◌≡◌, Bool, List, ℕ, zero, suc, ◌<◌, ℤ, length, get_or}
 use Rattle.machine.specs.Settings.{value_in, Entry, carry}
 use Rattle.model.specs.Tables.{slots}
 use Rattle.writers.specs.Writers.{WriteLists, OfSettings}
@@ -24,6 +24,11 @@ unfoldable pub carried_first : (ℕ → List Entry) → List ℕ → List ℤ �
 carried_first writes order values zero = values
 carried_first writes order values (suc k) = carry (writes (get_or order k 0)) (carried_first writes order values k)
 
--- the writes of the changes below a position are carried into both lists: of kept values, those as of the position
+-- the same lists of values, of which others are known
+abbrev pub knowing : List Bool → KnownValues → KnownValues
+knowing known v = record { known = known; before = v.before; after = v.after }
+
+-- the writes of the changes below a position are carried into both lists: of kept values, those as of the position, whichever are known. The same values are known
 pub record CarriedBelow (position : ℕ) (h : HistoryLists) (v v' : KnownValues) : Type 0 where
-  pub right : (kept : List ℤ) → Known (value_in kept) v → Known (values_below h.order h.writes h.targets h.written kept position) v'
+  pub known : v'.known ≡ v.known
+  pub right : (kept : List ℤ) (known : List Bool) → Known (value_in kept) (knowing known v) → Known (values_below h.order h.writes h.targets h.written kept position) (knowing known v')

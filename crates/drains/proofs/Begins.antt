@@ -1,5 +1,5 @@
 -- What a drain begins with.
-use mathlib.Core.Path.{◌≡◌}
+use mathlib.Core.Path.{◌≡◌, sym, subst}
 use mathlib.Core.Bool.{Bool}
 use mathlib.Core.List.{List}
 use mathlib.Core.Option.{none, some}
@@ -14,10 +14,10 @@ use Rattle.model.proofs.Form.{facts}
 use Rattle.search.specs.Searches.{is_waiting, waiting_in}
 use Rattle.search.proofs.First.{first_some}
 use Rattle.writers.proofs.Model.{tested-settings, placed-writes, listed}
-use Rattle.carrying.specs.Carrying.{Carriable, CarriedBelow}
+use Rattle.carrying.specs.Carrying.{Carriable, knowing, CarriedBelow}
 use Rattle.machine.specs.Settings.{value_in}
 use Rattle.values.specs.declared.KnownValues.{KnownValues}
-use Rattle.values.specs.Values.{history_lists, Known}
+use Rattle.values.specs.Values.{history_lists, values_below, Known}
 use Rattle.uses.specs.Columns.{columns_of, Walkable}
 use Rattle.uses.specs.declared.SettingUses.{SettingUses}
 use Rattle.uses.specs.Uses.{NoUses, NoneNoted, LastUses}
@@ -63,6 +63,6 @@ module _ {T : Tables} {first : ℕ} (g : Formed (length T.order) T) (w : waiting
       record {
         formed = g;
         passed = (first_some waits (held_count T) first w).2;
-        values = c.right T.kept q;
+        values = subst (λ (known : List Bool). Known (values_below T.order T.writes T.targets T.written T.kept first) (knowing known v')) (sym c.known) (c.right T.kept v.known q);
         uses = uses-passed (first + 1) (omega arith) (uses-first n.0 z n.1);
       }

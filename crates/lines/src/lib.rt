@@ -3,10 +3,10 @@
 
 ghost use Rattle.std.specs.Prelude.{◌+◌, ◌≤◌, length};
 ghost use Rattle.text.specs.Pieces.{Put};
-ghost use Rattle.model.specs.Answers.{Faulted, as_turn};
+ghost use Rattle.model.specs.Answers.{Faulted, as_turned};
 ghost use Rattle.lines.specs.Lines.{package_line, outcome, entry_line, turn_of, turn_line, setting_line};
 
-use model::Turn;
+use model::{Refusal, Turn};
 use text::{put, put_number, put_signed};
 
 // The line of a package that is refused.
@@ -78,17 +78,18 @@ fn put_fault(timestamp: u64, place: usize, text: &mut [u8], at: usize) -> usize
 }
 
 // The line of a turn. An idle one has none.
-pub fn put_turn(turn: Turn, text: &mut [u8], at: usize) -> usize
+pub fn put_turn(answer: Result<Turn, Refusal>, text: &mut [u8], at: usize) -> usize
     requires { at + 64 ≤ length text.old }
-    ensures put { Put at (turn_line (as_turn turn)) text.old text.new result }
+    ensures put { Put at (turn_line (as_turned answer)) text.old text.new result }
     ensures upper_bound { result ≤ at + 64 }
 {
-    match turn {
-        Turn::Idle => at,
-        Turn::Ran(timestamp) => put_turn_of(timestamp, b" ran", text, at),
-        Turn::Stood(timestamp) => put_turn_of(timestamp, b" stood", text, at),
-        Turn::Cleared(timestamp) => put_turn_of(timestamp, b" cleared", text, at),
-        Turn::Faulted(timestamp, place) => put_fault(timestamp, place, text, at),
+    match answer {
+        Ok(Turn::Ran(timestamp)) => put_turn_of(timestamp, b" ran", text, at),
+        Ok(Turn::Stood(timestamp)) => put_turn_of(timestamp, b" stood", text, at),
+        Ok(Turn::Cleared(timestamp)) => put_turn_of(timestamp, b" cleared", text, at),
+        Ok(Turn::Faulted(timestamp, place)) => put_fault(timestamp, place, text, at),
+        Ok(Turn::Idle) => at,
+        Err(_) => at,
     }
 }
 

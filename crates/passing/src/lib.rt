@@ -58,6 +58,6 @@ pub fn pass_from(
             k, count, timestamps, order, status, withdrawn, lengths, programs, reads, writes,
             sources, seen, targets, written, view, versions, kept, values, uses,
         );
-        count_turn(answer, totals);
+        count_turn(Ok(answer), totals);
     }
 }

@@ -8,16 +8,10 @@ use lib.ListN.{length}
 use Rattle.general.proofs.Cases.{true-is-not-false}
 use Rattle.text.specs.Pieces.{Put}
 use Rattle.text.proofs.Pieces.{put_as, put-nothing, put_then}
-use Rattle.std.specs.Prelude.{Result, Ok, Err}
-use Rattle.model.specs.declared.Refusal.{Refusal}
-use Rattle.model.specs.declared.Turn.{Turn}
-use Rattle.model.specs.Answers.{Turned, as_turned}
-use Rattle.model.specs.Cabinet.{Cabinet}
-use Rattle.model.specs.Figure.{Step, idle, turned}
-use Rattle.model.specs.Tables.{Tables, decode}
+use Rattle.model.specs.Answers.{Turned}
+use Rattle.model.specs.Tables.{Tables}
 use Rattle.model.specs.Form.{Formed}
-use Rattle.model.specs.Calls.{Reply, reply, step_reply, round_of, turn, drain}
-use Rattle.model.proofs.Answers.{by-event}
+use Rattle.model.specs.Calls.{Reply, reply, turn, drain}
 use Rattle.model.specs.Log.{turn_call, drain_turns, after_call, begun}
 use Rattle.model.proofs.Form.{facts}
 use Rattle.theory.proofs.AnyTables.{calls-keep-form, drains-any, drains-by-turns}
@@ -39,28 +33,6 @@ idle-is (Turned.Refused r) q = true-is-not-false (sym q)
 turn-formed : (T : Tables) → Formed capacity T → Formed capacity (turn capacity T).tables
 unfolding after_call
 turn-formed T g = calls-keep-form capacity turn_call (begun T) g
-
--- the answer is no refusal
-abbrev answered : Turned → Type 0
-answered Turned.Idle = Unit {0}
-answered (Turned.Ran t) = Unit {0}
-answered (Turned.Stood t) = Unit {0}
-answered (Turned.Cleared t) = Unit {0}
-answered (Turned.Faulted t place) = Unit {0}
-answered (Turned.Refused r) = ⊥
-
-step-answered : (n : ℕ) (T : Tables) (c : Cabinet) (s : Step) → answered (step_reply n T c s).answer
-step-answered n T c idle = tt {0}
-step-answered n T c (turned h view e) = by-event answered (λ t. tt {0}) (λ t. tt {0}) (λ t. tt {0}) (λ t place. tt {0}) e
-
-turn-answered : (T : Tables) → Formed capacity T → answered (turn capacity T).answer
-unfolding turn
-turn-answered T g = rw (g.sized, g.form) (step-answered capacity T (decode T) (round_of (decode T)))
-
--- tables in form are not refused
-pub never-refused : {T U : Tables} (made : Result Turn Refusal) → Formed capacity T → ((t : Turn) → made ≡ Ok t → ⊥) → reply (as_turned made) U ≡ turn capacity T → ⊥
-never-refused (Ok t) g h e = h t refl
-never-refused {T} (Err refusal) g h e = subst (λ (y : Reply Turned). answered y.answer) (sym e) (turn-answered T g)
 
 -- ---- a drain under way
 

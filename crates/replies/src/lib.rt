@@ -52,14 +52,12 @@ fn put_turns(
 {
     let mut end = at;
     loop {
-        let Ok(made) = turn(
+        let answer = turn(
             CAPACITY, held, timestamps, order, status, withdrawn, lengths, programs, reads, writes,
             sources, seen, targets, written, view, versions, cutoff, kept,
-        ) else {
-            unreachable!()
-        };
-        end = put_turn(made, text, end);
-        if is_idle(made) {
+        );
+        end = put_turn(answer, text, end);
+        if is_idle(answer) {
             return end;
         }
     }

@@ -3,13 +3,13 @@
 
 ghost use Rattle.std.specs.Prelude.{◌≡◌, true, ◌+◌, ◌≤◌, length};
 ghost use Rattle.text.specs.Pieces.{Put};
-ghost use Rattle.model.specs.Answers.{as_turn};
+ghost use Rattle.model.specs.Answers.{as_turned};
 ghost use Rattle.model.specs.Package.{layout_fits};
 ghost use Rattle.reply_parts.specs.Parts.{entry_lines, is_idle, setting_lines};
 
 use fresh::start_value;
 use lines::{put_entry, put_setting};
-use model::Turn;
+use model::{Refusal, Turn};
 use packages::{entry_count, kind_at};
 
 // The lines of the entries, with the numbers of their answers.
@@ -27,10 +27,10 @@ pub fn put_entries(bytes: &[u8], answers: &[u8], text: &mut [u8]) -> usize
 }
 
 // Whether a turn was idle.
-pub fn is_idle(turn: Turn) -> bool
-    ensures { result ≡ is_idle (as_turn turn) }
+pub fn is_idle(answer: Result<Turn, Refusal>) -> bool
+    ensures { result ≡ is_idle (as_turned answer) }
 {
-    turn == Turn::Idle
+    matches!(answer, Ok(Turn::Idle))
 }
 
 // The lines of the settings that differ from their start.

@@ -1,19 +1,12 @@
 -- Laws of the search for the first position that passes a test.
-use mathlib.Core.Path.{◌≡◌, refl, sym, ap, subst}
+use mathlib.Core.Path.{◌≡◌, refl, subst}
 use mathlib.Core.Bool.{Bool, true, false, cond}
-use mathlib.Core.List.{List}
 use mathlib.Core.Option.{Option, none, some}
 use Prim.Native.Nat.{ℕ, zero, suc, ◌+◌, ◌<◌, ◌≤◌}
-use lib.ListN.{length, get_or, take}
-use lib.Seq.{length-take-le, get_or-take}
-use Rattle.std.specs.Prelude as prelude
-use Rattle.std.specs.Prelude.{Some, None, MatchOption}
-use Rattle.std.specs.List.{All, AllWithin, HoldsAt}
-use Rattle.std.proofs.lemmas.Grind.{common_steps}
 use native.Mathlib.Decide.{dec_lt}
 use native.Mathlib.Omega.{arith}
 use Rattle.general.proofs.Cases.{by-test}
-use Rattle.search.specs.Searches.{PlacesWithin, first_from, found_of}
+use Rattle.search.specs.Searches.{first_from}
 
 -- ---- what the answer says
 
@@ -78,21 +71,3 @@ module _ (test : ℕ → Bool) where
 
   pub some_first : (count k : ℕ) → k < count → test k ≡ true → ((j : ℕ) → j < k → test j ≡ false) → first_from test 0 count ≡ some k
   some_first count k h t f = some-from 0 count k (omega arith) (omega arith) t (λ j a b. f j b)
-
--- ---- the elements of a list
-
-module _ (p : ℕ → Bool) (l : List ℕ) (count : ℕ) (long : count ≤ length l) where
-  abbrev passes_at : ℕ → Bool
-  passes_at k = p (get_or l k 0)
-
-  -- what `position` finds among the first count elements
-  pub first-position : (r : prelude.Option ℕ) → MatchOption r (AllWithin (λ x. p x ≡ false) (take count l) 0 (length (take count l))) (λ i. (i < length (take count l)) × HoldsAt (λ x. p x ≡ true) (take count l) i × AllWithin (λ x. p x ≡ false) (take count l) 0 i) → r ≡ found_of (first_from passes_at 0 count)
-  first-position None h =
-      sym (ap found_of (none_first passes_at count (λ j q. rw get_or-take at (h j 0 (omega arith) (omega (arith, length-take-le count l long))))))
-  first-position (Some i) h =
-      let w : i < count = omega (arith, h.0, length-take-le count l long) in
-      sym (ap found_of (some_first passes_at count i w (rw get_or-take at (h.1 0)) (λ j q. let v : j < count = omega arith in rw get_or-take at (h.2 j 0 (omega arith) q))))
-
--- places below a limit, as a list
-pub places-below : {count limit : ℕ} {order : List ℕ} → PlacesWithin count order limit → All (λ x. x < limit) (take count order)
-places-below p = λ k d h. grind (arith, common_steps, p.long, p.below k)

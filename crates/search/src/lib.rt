@@ -39,12 +39,20 @@ pub fn position(t: u64, count: usize, order: &[u16], timestamps: &[u64]) -> Opti
     stamped_at(t, k, count, order, timestamps).then_some(k)
 }
 
-// The position of the first change of the order list that is New or Invalid.
+// The position of the first change of the order list that is New or Invalid. Document 01 names this form: a loop that yields the found place by break.
 pub fn waiting(count: usize, order: &[u16], status: &[u16]) -> Option<usize>
     requires { PlacesWithin count order.now (length status.now) }
     ensures { result ≡ found_of (waiting_of order.now status.now count) }
 {
-    order[..count]
-        .iter()
-        .position(|place| status[*place as usize] != 1)
+    let mut k = 0;
+    loop {
+        if count <= k {
+            break None;
+        }
+        let place = order[k] as usize;
+        if status[place] != 1 {
+            break Some(k);
+        }
+        k += 1;
+    }
 }

@@ -2,11 +2,11 @@
 #![tactic(auto)]
 
 ghost use Rattle.std.specs.Prelude.{◌≡◌};
-ghost use Rattle.model.specs.Answers.{as_turn};
+ghost use Rattle.model.specs.Answers.{as_turned};
 ghost use Rattle.model.specs.Drain.{console};
 ghost use Rattle.totals.specs.Counted.{Countable, kind_number, counted_at, counted_in};
 
-use model::Turn;
+use model::{Refusal, Turn};
 
 // What a counted turn did, in the order of a console's totals.
 #[derive(Clone, Copy)]
@@ -27,15 +27,16 @@ fn count(t: u64, kind: Kind, totals: &mut [u16])
 }
 
 // One more turn, by its answer. An idle one is not counted.
-pub fn count_turn(answer: Turn, totals: &mut [u16])
+pub fn count_turn(answer: Result<Turn, Refusal>, totals: &mut [u16])
     requires { Countable totals.old }
-    ensures { totals.new ≡ counted_in (as_turn answer) totals.old }
+    ensures { totals.new ≡ counted_in (as_turned answer) totals.old }
 {
     match answer {
-        Turn::Idle => {}
-        Turn::Ran(t) => count(t, Kind::Ran, totals),
-        Turn::Stood(t) => count(t, Kind::Stood, totals),
-        Turn::Cleared(t) => count(t, Kind::Cleared, totals),
-        Turn::Faulted(t, _) => count(t, Kind::Faulted, totals),
+        Ok(Turn::Idle) => {}
+        Ok(Turn::Ran(t)) => count(t, Kind::Ran, totals),
+        Ok(Turn::Stood(t)) => count(t, Kind::Stood, totals),
+        Ok(Turn::Cleared(t)) => count(t, Kind::Cleared, totals),
+        Ok(Turn::Faulted(t, _)) => count(t, Kind::Faulted, totals),
+        Err(_) => {}
     }
 }

@@ -53,7 +53,7 @@ pub fn shift_right(a: i32, n: u32) -> i32
 pub fn count_ones(a: i32) -> i32
     ensures { result ≡ pos (ones_of (pattern_of a)) }
 {
-    a.count_ones() as i32
+    pattern(a).count_ones() as i32
 }
 
 // The bitwise and.

@@ -6,10 +6,10 @@ use Rattle.replies.specs.Replies.{capacity}
 use Rattle.replies.proofs.Turning.{Turning}
 use Rattle.replies.proofs.put_turns.Given as goal
 
-abbrev pub invariant-loop-made : goal.invariant-loop-made
-invariant-loop-made l =
+abbrev pub invariant-loop-at : goal.invariant-loop-at
+invariant-loop-at l =
     let i = l.initial in
     Turning (tables l.held l.timestamps l.order i.status l.withdrawn l.lengths l.programs i.reads i.writes i.sources i.seen i.targets i.written i.view l.versions l.cutoff l.kept) l.at i.text (tables l.held l.timestamps l.order l.status l.withdrawn l.lengths l.programs l.reads l.writes l.sources l.seen l.targets l.written l.view l.versions l.cutoff l.kept) l.text l.end
 
-abbrev pub decreases-loop-made : goal.decreases-loop-made
-decreases-loop-made l = length (drain_turns capacity (tables l.held l.timestamps l.order l.status l.withdrawn l.lengths l.programs l.reads l.writes l.sources l.seen l.targets l.written l.view l.versions l.cutoff l.kept))
+abbrev pub decreases-loop-at : goal.decreases-loop-at
+decreases-loop-at l = length (drain_turns capacity (tables l.held l.timestamps l.order l.status l.withdrawn l.lengths l.programs l.reads l.writes l.sources l.seen l.targets l.written l.view l.versions l.cutoff l.kept))

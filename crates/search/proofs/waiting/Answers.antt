@@ -1,17 +1,16 @@
--- `search::waiting`: the first change that is not Valid.
-use Rattle.std.proofs.Common.{ℕ, ◌≡◌, ◌==◌, true, false, not, get_or, take, arith, rules}
-use Rattle.std.proofs.iter.Serving.{serving}
-use Rattle.std.proofs.lemmas.Grind.{common_steps}
-use Rattle.std.proofs.lemmas.Iterator.{YieldsList-from_slice, IsFirst-from_position}
-use borrow.Author.Tests.{tests}
-use Rattle.search.proofs.First.{first-position, places-below}
+use Rattle.std.proofs.Common.{arith, ap, sym, not, eq-eqb, ne_eqb, below_more}
+use Rattle.search.specs.Searches.{found_of, is_waiting}
+use Rattle.search.proofs.First.{none_first, some_first}
 use Rattle.search.proofs.waiting.Goals as goal
 
-pub position-requires-clause-callable : goal.position-requires-clause-callable
-position-requires-clause-callable c = let all = places-below c.requires in grind (arith, common_steps, serving)
+pub loop-k-preserved : goal.loop-k-preserved
+loop-k-preserved c =
+    (omega arith, below_more _ _ c.loop-k.invariant.1 (ap not (eq-eqb _ 1 c.if-status-place-ne1.false)))
 
-pub returns : goal.returns
-returns c =
-    let waits = λ (x : ℕ). not (get_or c.args.status.now x 0 == 1) in
-    first-position waits c.args.order.now c.args.count c.requires.long c.position.result
-    (IsFirst-from_position _ _ c.position.result (λ (x : ℕ). waits x ≡ true) (λ (x : ℕ). waits x ≡ false) c.position.ensures.ran (YieldsList-from_slice (take c.args.count c.args.order.now) c.iter.ensures.rest) (λ x q k. search (rules, tests)) (λ x q k. search (rules, tests)))
+pub returns-then-count-k : goal.returns-then-count-k
+returns-then-count-k c =
+    sym (ap found_of (none_first (is_waiting c.args.order.now c.args.status.now) c.args.count (λ j l. c.loop-k.invariant.1 j (omega arith))))
+
+pub returns-then-status-place-ne1 : goal.returns-then-status-place-ne1
+returns-then-status-place-ne1 c =
+    sym (ap found_of (some_first (is_waiting c.args.order.now c.args.status.now) c.args.count c.loop-k.k (omega arith) (ap not (ne_eqb _ 1 c.if-status-place-ne1.true)) c.loop-k.invariant.1))
