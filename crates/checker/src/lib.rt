@@ -10,7 +10,7 @@ use drains::turn_all;
 use model::{Refusal, Turn};
 use single_turn::turn_once;
 use tables::form::fault;
-use tables::held_count;
+use tables::{Tables, held_count};
 use zeros::clear;
 
 // One turn: the answer and the tables after one round of the Checker (Figure 1), with document 01's additions.
@@ -45,8 +45,26 @@ pub fn turn(
 {
     // Nothing is done before the tables are tested.
     fault(
-        n, held, timestamps, order, status, withdrawn, lengths, programs, reads, writes, sources,
-        seen, targets, written, view, versions, cutoff, kept,
+        n,
+        &Tables {
+            held,
+            timestamps,
+            order,
+            status,
+            withdrawn,
+            lengths,
+            programs,
+            reads,
+            writes,
+            sources,
+            seen,
+            targets,
+            written,
+            view,
+            versions,
+            cutoff,
+            kept,
+        },
     )?;
     let count = held_count(held);
     Ok(turn_once(
@@ -91,8 +109,26 @@ pub fn drain(
         return Err(Refusal::WrongLengths);
     }
     fault(
-        n, held, timestamps, order, status, withdrawn, lengths, programs, reads, writes, sources,
-        seen, targets, written, view, versions, cutoff, kept,
+        n,
+        &Tables {
+            held,
+            timestamps,
+            order,
+            status,
+            withdrawn,
+            lengths,
+            programs,
+            reads,
+            writes,
+            sources,
+            seen,
+            targets,
+            written,
+            view,
+            versions,
+            cutoff,
+            kept,
+        },
     )?;
     clear(totals);
     let count = held_count(held);

@@ -10,6 +10,7 @@ use closing::{close_blocks, close_columns};
 use cutoff_tests::refusal_of;
 use dropping::drop_changes;
 use model::Refusal;
+use tables::Tables;
 use tables::form::fault;
 
 pub fn raise_cutoff(
@@ -46,8 +47,26 @@ pub fn raise_cutoff(
         ≡ raise_cutoff n T timestamp }
 {
     fault(
-        n, held, timestamps, order, status, withdrawn, lengths, programs, reads, writes, sources,
-        seen, targets, written, view, versions, cutoff, kept,
+        n,
+        &Tables {
+            held,
+            timestamps,
+            order,
+            status,
+            withdrawn,
+            lengths,
+            programs,
+            reads,
+            writes,
+            sources,
+            seen,
+            targets,
+            written,
+            view,
+            versions,
+            cutoff,
+            kept,
+        },
     )?;
     refusal_of(timestamp, held, timestamps, order, status, cutoff)?;
     let mut places = [0u16; 4096];

@@ -9,6 +9,7 @@ ghost use Rattle.answer_numbers.specs.Numbers.{value_number, standing_number, nu
 use answer_numbers::{done_number, packed_number, standing_number, value_number};
 use package_out::package_out;
 use queries::{current_value, plain_run, standing, start_values, value_as_of};
+use tables::Tables;
 
 // The current value of a setting, or its refusal, as a number.
 #[unsafe(no_mangle)]
@@ -40,8 +41,27 @@ pub extern "C" fn tolbezun_current_value(
         result ≡ value_number (value_given (current_value n T setting)) }
 {
     value_number(current_value(
-        n, held, timestamps, order, status, withdrawn, lengths, programs, reads, writes, sources,
-        seen, targets, written, view, versions, cutoff, kept, setting,
+        n,
+        &Tables {
+            held,
+            timestamps,
+            order,
+            status,
+            withdrawn,
+            lengths,
+            programs,
+            reads,
+            writes,
+            sources,
+            seen,
+            targets,
+            written,
+            view,
+            versions,
+            cutoff,
+            kept,
+        },
+        setting,
     ))
 }
 
@@ -76,8 +96,28 @@ pub extern "C" fn tolbezun_value_as_of(
         result ≡ value_number (value_given (value_as_of n T timestamp setting)) }
 {
     value_number(value_as_of(
-        n, held, timestamps, order, status, withdrawn, lengths, programs, reads, writes, sources,
-        seen, targets, written, view, versions, cutoff, kept, timestamp, setting,
+        n,
+        &Tables {
+            held,
+            timestamps,
+            order,
+            status,
+            withdrawn,
+            lengths,
+            programs,
+            reads,
+            writes,
+            sources,
+            seen,
+            targets,
+            written,
+            view,
+            versions,
+            cutoff,
+            kept,
+        },
+        timestamp,
+        setting,
     ))
 }
 
@@ -111,8 +151,27 @@ pub extern "C" fn tolbezun_standing(
         result ≡ standing_number (standing_given (standing n T timestamp)) }
 {
     standing_number(standing(
-        n, held, timestamps, order, status, withdrawn, lengths, programs, reads, writes, sources,
-        seen, targets, written, view, versions, cutoff, kept, timestamp,
+        n,
+        &Tables {
+            held,
+            timestamps,
+            order,
+            status,
+            withdrawn,
+            lengths,
+            programs,
+            reads,
+            writes,
+            sources,
+            seen,
+            targets,
+            written,
+            view,
+            versions,
+            cutoff,
+            kept,
+        },
+        timestamp,
     ))
 }
 
@@ -146,8 +205,27 @@ pub extern "C" fn tolbezun_plain_run(
         numbered result settings.new ≡ plain_numbers (plain_run n T settings.old) }
 {
     done_number(plain_run(
-        n, held, timestamps, order, status, withdrawn, lengths, programs, reads, writes, sources,
-        seen, targets, written, view, versions, cutoff, kept, settings,
+        n,
+        &Tables {
+            held,
+            timestamps,
+            order,
+            status,
+            withdrawn,
+            lengths,
+            programs,
+            reads,
+            writes,
+            sources,
+            seen,
+            targets,
+            written,
+            view,
+            versions,
+            cutoff,
+            kept,
+        },
+        settings,
     ))
 }
 
@@ -181,8 +259,27 @@ pub extern "C" fn tolbezun_package_out(
         numbered result bytes.new ≡ packed_numbers (package_out n T bytes.old) }
 {
     packed_number(package_out(
-        n, held, timestamps, order, status, withdrawn, lengths, programs, reads, writes, sources,
-        seen, targets, written, view, versions, cutoff, kept, bytes,
+        n,
+        &Tables {
+            held,
+            timestamps,
+            order,
+            status,
+            withdrawn,
+            lengths,
+            programs,
+            reads,
+            writes,
+            sources,
+            seen,
+            targets,
+            written,
+            view,
+            versions,
+            cutoff,
+            kept,
+        },
+        bytes,
     ))
 }
 

@@ -9,6 +9,7 @@ ghost use Rattle.model.specs.Calls.{reply, take_in, withdraw};
 
 use model::{Outcome, Refusal};
 pub use package_intake::take_in_package;
+use tables::Tables;
 use tables::form::fault;
 use taking::take_item;
 use withdrawing::withdraw_item;
@@ -45,8 +46,26 @@ pub fn take_in(
         ≡ take_in n T timestamp (code version program.now) }
 {
     fault(
-        n, held, timestamps, order, status, withdrawn, lengths, programs, reads, writes, sources,
-        seen, targets, written, view, versions, cutoff, kept,
+        n,
+        &Tables {
+            held,
+            timestamps,
+            order,
+            status,
+            withdrawn,
+            lengths,
+            programs,
+            reads,
+            writes,
+            sources,
+            seen,
+            targets,
+            written,
+            view,
+            versions,
+            cutoff,
+            kept,
+        },
     )?;
     take_item(
         held, timestamps, order, lengths, programs, versions, cutoff, timestamp, version, program,
@@ -83,8 +102,26 @@ pub fn withdraw(
         ≡ withdraw n T timestamp }
 {
     fault(
-        n, held, timestamps, order, status, withdrawn, lengths, programs, reads, writes, sources,
-        seen, targets, written, view, versions, cutoff, kept,
+        n,
+        &Tables {
+            held,
+            timestamps,
+            order,
+            status,
+            withdrawn,
+            lengths,
+            programs,
+            reads,
+            writes,
+            sources,
+            seen,
+            targets,
+            written,
+            view,
+            versions,
+            cutoff,
+            kept,
+        },
     )?;
     withdraw_item(
         held, timestamps, order, status, withdrawn, cutoff, timestamp,

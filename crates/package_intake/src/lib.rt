@@ -9,6 +9,7 @@ ghost use Rattle.model.specs.Calls.{package_reply, take_in_package};
 use entries::take_entries;
 use model::Refusal;
 use packages::layout_fits;
+use tables::Tables;
 use tables::form::fault;
 
 // Taking in a package: each entry taken in or withdrawn, in order. Form is tested once.
@@ -48,8 +49,26 @@ pub fn take_in_package(
         return Err(Refusal::WrongLengths);
     }
     fault(
-        n, held, timestamps, order, status, withdrawn, lengths, programs, reads, writes, sources,
-        seen, targets, written, view, versions, cutoff, kept,
+        n,
+        &Tables {
+            held,
+            timestamps,
+            order,
+            status,
+            withdrawn,
+            lengths,
+            programs,
+            reads,
+            writes,
+            sources,
+            seen,
+            targets,
+            written,
+            view,
+            versions,
+            cutoff,
+            kept,
+        },
     )?;
     let laid_out = layout_fits(bytes);
     if !laid_out {

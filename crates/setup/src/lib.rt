@@ -9,6 +9,7 @@ ghost use Rattle.model.specs.Calls.{reply, set_up};
 use clearing::{clear_changes, clear_lists};
 use fresh::fill_start;
 use model::Refusal;
+use tables::Tables;
 use tables::form::lengths_fit;
 
 pub fn set_up(
@@ -42,8 +43,26 @@ pub fn set_up(
         ≡ set_up n T }
 {
     if !lengths_fit(
-        n, held, timestamps, order, status, withdrawn, lengths, programs, reads, writes, sources,
-        seen, targets, written, view, versions, cutoff, kept,
+        n,
+        &Tables {
+            held,
+            timestamps,
+            order,
+            status,
+            withdrawn,
+            lengths,
+            programs,
+            reads,
+            writes,
+            sources,
+            seen,
+            targets,
+            written,
+            view,
+            versions,
+            cutoff,
+            kept,
+        },
     ) {
         return Err(Refusal::WrongLengths);
     }

@@ -12,6 +12,7 @@ use Rattle.model.specs.History.{infinity}
 use Rattle.model.specs.Tables.{Tables, held_count, cutoff_in}
 use Rattle.model.specs.Form.{every, length_tests, lengths_fit, head_fits, order_fits, program_fits, list_fits, from_cutoff, unused_fits, in_form}
 use Rattle.model.specs.Refusals.{fault_of}
+use Rattle.model.proofs.Tests.{Lengths, lengths-of}
 
 -- ---- several tests
 
@@ -24,18 +25,22 @@ join : (a : Bool) (tests : List Bool) → conjoined a tests ≡ (a && every test
 join a [] = sym (and-true a)
 join a (b ∷ tests) = join (a && b) tests ∙ and_assoc a b (every tests)
 
-pub all-joined : {l tests : List Bool} → l ≡ tests → conjoined true l ≡ every tests
+all-joined : {l tests : List Bool} → l ≡ tests → conjoined true l ≡ every tests
 all-joined {l} e = join true l ∙ ap every e
 
 -- results that are the tests, one after the other
 infixr 20 ◌and◌
-pub ◌and◌ : {a b : Bool} {l m : List Bool} → a ≡ b → l ≡ m → ◌≡◌ {A = List Bool} (a ∷ l) (b ∷ m)
+◌and◌ : {a b : Bool} {l m : List Bool} → a ≡ b → l ≡ m → ◌≡◌ {A = List Bool} (a ∷ l) (b ∷ m)
 e and es = ap₂ ◌∷◌ e es
 
-pub no_more : ◌≡◌ {A = List Bool} [] []
+no_more : ◌≡◌ {A = List Bool} [] []
 no_more = refl
 
 -- ---- lengths and form
+
+-- the lengths, where the test of them passed
+pub sized : (n : ℕ) (T : Tables) → true ≡ lengths_fit n T → Lengths n T
+sized n T e = lengths-of n T (sym e)
 
 module _ (n : ℕ) (T : Tables) where
   -- the capacity is out of range
@@ -72,9 +77,6 @@ module _ (n : ℕ) (T : Tables) {k : ℕ} (e : k ≡ held_count T) where
 
 -- the refusal, by the two tests
 module _ (n : ℕ) (T : Tables) where
-  pub lengths-wrong : lengths_fit n T ≡ false → 1 ≡ fault_of n T
-  lengths-wrong e = rw e
-
   pub form-wrong : lengths_fit n T ≡ true → in_form n T ≡ false → 2 ≡ fault_of n T
   form-wrong e f = rw (e, f)
 

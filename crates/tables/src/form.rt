@@ -1,158 +1,93 @@
 // Lengths and form of the tables: refusals 1 and 2. Tests are joined by `&`, with no branch between them.
-ghost use Rattle.std.specs.Prelude.{◌≡◌, [], ◌≤◌};
-ghost use Rattle.model.specs.Tables.{tables};
+ghost use Rattle.std.specs.Prelude.{◌≡◌, ◌≤◌};
 ghost use Rattle.model.specs.Form.{unused_fits, lengths_fit};
 ghost use Rattle.model.specs.Refusals.{fault_of};
 ghost use Rattle.model.specs.Answers.{number_in};
+ghost use Rattle.tables.specs.Lent.{shown};
 
-use crate::held_count;
+use crate::{Tables, held_count};
 use form_lists::lists_fit;
 use form_places::{heads_fit, none_below, order_fits, programs_fit};
 use model::Refusal;
 use zeros::rest_zero;
 
 // Whether the tables have the lengths of capacity n, from 1 to 4,096: not refusal 1.
-pub fn lengths_fit(
-    n: usize,
-    held: &[u16],
-    timestamps: &[u64],
-    order: &[u16],
-    status: &[u16],
-    withdrawn: &[u16],
-    lengths: &[u16],
-    programs: &[u8],
-    reads: &[u16],
-    writes: &[u16],
-    sources: &[u16],
-    seen: &[i32],
-    targets: &[u16],
-    written: &[i32],
-    view: &[i32],
-    versions: &[u16],
-    cutoff: &[u64],
-    kept: &[i32],
-) -> bool
-    ensures { let T =
-        tables held.now timestamps.now order.now status.now withdrawn.now
-        lengths.now programs.now reads.now writes.now sources.now
-        seen.now targets.now written.now view.now versions.now cutoff.now kept.now in
-        result ≡ lengths_fit n T }
+pub fn lengths_fit(n: usize, tables: &Tables) -> bool
+    ensures { result ≡ lengths_fit n (shown tables.now) }
 {
     if !((1 <= n) & (n <= 4096)) {
         return false;
     }
     let slots = 32 * n;
-    (held.len() == 1)
-        & (timestamps.len() == n)
-        & (order.len() == n)
-        & (status.len() == n)
-        & (withdrawn.len() == n)
-        & (lengths.len() == n)
-        & (programs.len() == 256 * n)
-        & (reads.len() == n)
-        & (writes.len() == n)
-        & (sources.len() == slots)
-        & (seen.len() == slots)
-        & (targets.len() == slots)
-        & (written.len() == slots)
-        & (view.len() == 1024)
-        & (versions.len() == n)
-        & (cutoff.len() == 1)
-        & (kept.len() == 1024)
+    (tables.held.len() == 1)
+        & (tables.timestamps.len() == n)
+        & (tables.order.len() == n)
+        & (tables.status.len() == n)
+        & (tables.withdrawn.len() == n)
+        & (tables.lengths.len() == n)
+        & (tables.programs.len() == 256 * n)
+        & (tables.reads.len() == n)
+        & (tables.writes.len() == n)
+        & (tables.sources.len() == slots)
+        & (tables.seen.len() == slots)
+        & (tables.targets.len() == slots)
+        & (tables.written.len() == slots)
+        & (tables.view.len() == 1024)
+        & (tables.versions.len() == n)
+        & (tables.cutoff.len() == 1)
+        & (tables.kept.len() == 1024)
 }
 
 // Whether the slots of places from count on are 0.
-fn unused_fits(
-    count: usize,
-    timestamps: &[u64],
-    order: &[u16],
-    status: &[u16],
-    withdrawn: &[u16],
-    lengths: &[u16],
-    programs: &[u8],
-    reads: &[u16],
-    writes: &[u16],
-    sources: &[u16],
-    seen: &[i32],
-    targets: &[u16],
-    written: &[i32],
-    versions: &[u16],
-) -> bool
+fn unused_fits(count: usize, tables: &Tables) -> bool
     requires { count ≤ 4096 }
-    ensures { result
-        ≡ unused_fits
-        (tables [] timestamps.now order.now status.now withdrawn.now lengths.now
-        programs.now reads.now writes.now sources.now seen.now
-        targets.now written.now [] versions.now [] [])
-        count }
+    ensures { result ≡ unused_fits (shown tables.now) count }
 {
     let bytes = 256 * count;
     let slots = 32 * count;
-    rest_zero(timestamps, count)
-        & rest_zero(order, count)
-        & rest_zero(status, count)
-        & rest_zero(withdrawn, count)
-        & rest_zero(lengths, count)
-        & rest_zero(programs, bytes)
-        & rest_zero(reads, count)
-        & rest_zero(writes, count)
-        & rest_zero(sources, slots)
-        & rest_zero(seen, slots)
-        & rest_zero(targets, slots)
-        & rest_zero(written, slots)
-        & rest_zero(versions, count)
+    rest_zero(tables.timestamps, count)
+        & rest_zero(tables.order, count)
+        & rest_zero(tables.status, count)
+        & rest_zero(tables.withdrawn, count)
+        & rest_zero(tables.lengths, count)
+        & rest_zero(tables.programs, bytes)
+        & rest_zero(tables.reads, count)
+        & rest_zero(tables.writes, count)
+        & rest_zero(tables.sources, slots)
+        & rest_zero(tables.seen, slots)
+        & rest_zero(tables.targets, slots)
+        & rest_zero(tables.written, slots)
+        & rest_zero(tables.versions, count)
 }
 
 // Refusal 1 or 2, where one applies.
-pub fn fault(
-    n: usize,
-    held: &[u16],
-    timestamps: &[u64],
-    order: &[u16],
-    status: &[u16],
-    withdrawn: &[u16],
-    lengths: &[u16],
-    programs: &[u8],
-    reads: &[u16],
-    writes: &[u16],
-    sources: &[u16],
-    seen: &[i32],
-    targets: &[u16],
-    written: &[i32],
-    view: &[i32],
-    versions: &[u16],
-    cutoff: &[u64],
-    kept: &[i32],
-) -> Result<(), Refusal>
-    ensures { let T =
-        tables held.now timestamps.now order.now status.now withdrawn.now
-        lengths.now programs.now reads.now writes.now sources.now
-        seen.now targets.now written.now view.now versions.now cutoff.now kept.now in
-        number_in result ≡ fault_of n T }
+#[tactic(auto, using(crate::proofs::Checks::sized))]
+pub fn fault(n: usize, tables: &Tables) -> Result<(), Refusal>
+    ensures { number_in result ≡ fault_of n (shown tables.now) }
 {
-    if !lengths_fit(
-        n, held, timestamps, order, status, withdrawn, lengths, programs, reads, writes, sources,
-        seen, targets, written, view, versions, cutoff, kept,
-    ) {
+    if !lengths_fit(n, tables) {
         return Err(Refusal::WrongLengths);
     }
-    let count = held_count(held);
+    let count = held_count(tables.held);
     if n < count {
         return Err(Refusal::NotInForm);
     }
-    let last = cutoff[0];
+    let last = tables.cutoff[0];
     let fits = heads_fit(
-        count, timestamps, status, withdrawn, reads, writes, versions,
-    ) & order_fits(count, order, timestamps)
-        & programs_fit(count, lengths, programs)
-        & lists_fit(count, reads, sources, seen)
-        & lists_fit(count, writes, targets, written)
-        & unused_fits(
-            count, timestamps, order, status, withdrawn, lengths, programs, reads, writes, sources,
-            seen, targets, written, versions,
-        )
+        count,
+        tables.timestamps,
+        tables.status,
+        tables.withdrawn,
+        tables.reads,
+        tables.writes,
+        tables.versions,
+    ) & order_fits(count, tables.order, tables.timestamps)
+        & programs_fit(count, tables.lengths, tables.programs)
+        & lists_fit(count, tables.reads, tables.sources, tables.seen)
+        & lists_fit(count, tables.writes, tables.targets, tables.written)
+        & unused_fits(count, tables)
         & (last < 18446744073709551615)
-        & none_below(count, last, timestamps);
+        & none_below(count, last, tables.timestamps);
     if fits {
         Ok(())
     } else {

@@ -3,8 +3,9 @@ use Rattle.std.proofs.Common.{refl, ap, ◌∙◌, arith, List, ℤ}
 use Rattle.std.proofs.lemmas.Result.{err_from_is_err_and}
 use Rattle.model.proofs.Answered.{refused-not-0}
 use Rattle.model.proofs.Form.{facts}
+use Rattle.tables.specs.Lent.{shown}
 use Rattle.tables.proofs.Faults.{faultless}
-use Rattle.model.specs.Tables.{code_in}
+use Rattle.model.specs.Tables.{program_at}
 use Rattle.fresh.specs.HeldRuns.{held_run}
 use Rattle.fresh.proofs.Model.{held-programs}
 use Rattle.queries.proofs.Outcomes.{plain-wrong-length, plain-fault, plain_done}
@@ -29,5 +30,6 @@ run_held-requires c = (held-programs (faultless _ _ c.in_ok-fault.ensures refl) 
 
 pub returns : goal.returns
 returns c =
-    plain_done _ _ _ c.if-settings-ne1024.false (faultless _ _ c.in_ok-fault.ensures refl) c.held_count-count.ensures
-    (c.fill_from-2.ensures ∙ c.run_held.ensures ∙ ap (λ (values : List ℤ). held_run c.args.order.now c.args.withdrawn.now (code_in c.args.lengths.now c.args.programs.now c.args.versions.now) values c.held_count-count.result) c.fill_from.ensures)
+    let T = shown c.args.tables.now in
+    plain_done _ T _ c.if-settings-ne1024.false (faultless _ _ c.in_ok-fault.ensures refl) c.held_count-count.ensures
+    (c.fill_from-2.ensures ∙ c.run_held.ensures ∙ ap (λ (values : List ℤ). held_run T.order T.withdrawn (program_at T) values c.held_count-count.result) c.fill_from.ensures)

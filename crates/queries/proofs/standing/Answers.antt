@@ -3,6 +3,7 @@ use Rattle.std.proofs.Common.{refl, ◌∙◌, arith}
 use Rattle.std.proofs.lemmas.Result.{err_from_is_err_and}
 use Rattle.model.proofs.Answered.{refused-not-0}
 use Rattle.model.proofs.Form.{facts}
+use Rattle.tables.specs.Lent.{shown}
 use Rattle.tables.proofs.Faults.{faultless}
 use Rattle.queries.proofs.Outcomes.{standing-fault, standing-asks, standing-formed}
 use Rattle.queries.proofs.standing.Goals as goal
@@ -15,8 +16,9 @@ returns-in_err-fault c =
 pub held_count-count-requires : goal.held_count-count-requires
 held_count-count-requires c = (facts (faultless _ _ c.in_ok-fault.ensures refl)).sizes.held
 
-pub bounds-cutoff-0 : goal.bounds-cutoff-0
-bounds-cutoff-0 c = omega (arith, (facts (faultless _ _ c.in_ok-fault.ensures refl)).sizes.cutoff)
+pub bounds-tables-0 : goal.bounds-tables-0
+bounds-tables-0 c =
+    omega (arith, (facts (faultless c.args.n (shown c.args.tables.now) c.in_ok-fault.ensures refl)).sizes.cutoff)
 
 pub standing_at-requires : goal.standing_at-requires
 standing_at-requires c = standing-asks (faultless _ _ c.in_ok-fault.ensures refl) c.held_count-count.ensures
