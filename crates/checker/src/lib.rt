@@ -43,29 +43,27 @@ pub fn turn(
         targets.new written.new view.new)
         ≡ turn n T }
 {
+    let tables = Tables {
+        held,
+        timestamps,
+        order,
+        status,
+        withdrawn,
+        lengths,
+        programs,
+        reads,
+        writes,
+        sources,
+        seen,
+        targets,
+        written,
+        view,
+        versions,
+        cutoff,
+        kept,
+    };
     // Nothing is done before the tables are tested.
-    fault(
-        n,
-        &Tables {
-            held,
-            timestamps,
-            order,
-            status,
-            withdrawn,
-            lengths,
-            programs,
-            reads,
-            writes,
-            sources,
-            seen,
-            targets,
-            written,
-            view,
-            versions,
-            cutoff,
-            kept,
-        },
-    )?;
+    fault(n, &tables)?;
     let count = held_count(held);
     Ok(turn_once(
         count, timestamps, order, status, withdrawn, lengths, programs, reads, writes, sources,
@@ -108,28 +106,27 @@ pub fn drain(
     if totals.len() != 1024 {
         return Err(Refusal::WrongLengths);
     }
-    fault(
-        n,
-        &Tables {
-            held,
-            timestamps,
-            order,
-            status,
-            withdrawn,
-            lengths,
-            programs,
-            reads,
-            writes,
-            sources,
-            seen,
-            targets,
-            written,
-            view,
-            versions,
-            cutoff,
-            kept,
-        },
-    )?;
+    let tables = Tables {
+        held,
+        timestamps,
+        order,
+        status,
+        withdrawn,
+        lengths,
+        programs,
+        reads,
+        writes,
+        sources,
+        seen,
+        targets,
+        written,
+        view,
+        versions,
+        cutoff,
+        kept,
+    };
+    // The totals are set to 0 only where the tables are in form.
+    fault(n, &tables)?;
     clear(totals);
     let count = held_count(held);
     turn_all(
