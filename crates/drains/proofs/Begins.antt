@@ -59,7 +59,7 @@ module _ {T : Tables} {first : ℕ} (g : Formed (length T.order) T) (w : waiting
       NoneNoted u →
       LastUses first (held_count T) (columns_of T) T.status u'.readers u'.writers × (u'.settled ≡ u.settled) →
       Going first T v' u'
-  going-first q c z n =
+  going-first {v} {v'} q c z n =
       record {
         formed = g;
         passed = (first_some waits (held_count T) first w).2;

@@ -77,18 +77,20 @@ fn put_fault(timestamp: u64, place: usize, text: &mut [u8], at: usize) -> usize
     put(b"\n", text, end)
 }
 
-// The line of a turn. An idle one has none.
+// The line of a turn's answer. An idle one has none, nor has a refusal.
 pub fn put_turn(answer: Result<Turn, Refusal>, text: &mut [u8], at: usize) -> usize
     requires { at + 64 ≤ length text.old }
     ensures put { Put at (turn_line (as_turned answer)) text.old text.new result }
     ensures upper_bound { result ≤ at + 64 }
 {
     match answer {
-        Ok(Turn::Ran(timestamp)) => put_turn_of(timestamp, b" ran", text, at),
-        Ok(Turn::Stood(timestamp)) => put_turn_of(timestamp, b" stood", text, at),
-        Ok(Turn::Cleared(timestamp)) => put_turn_of(timestamp, b" cleared", text, at),
-        Ok(Turn::Faulted(timestamp, place)) => put_fault(timestamp, place, text, at),
-        Ok(Turn::Idle) => at,
+        Ok(turn) => match turn {
+            Turn::Idle => at,
+            Turn::Ran(timestamp) => put_turn_of(timestamp, b" ran", text, at),
+            Turn::Stood(timestamp) => put_turn_of(timestamp, b" stood", text, at),
+            Turn::Cleared(timestamp) => put_turn_of(timestamp, b" cleared", text, at),
+            Turn::Faulted(timestamp, place) => put_fault(timestamp, place, text, at),
+        },
         Err(_) => at,
     }
 }
