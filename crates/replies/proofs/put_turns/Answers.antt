@@ -8,12 +8,12 @@ loop-at-init c = turning-begins _ _ _ c.requires.formed
 
 pub loop-at-smaller : goal.loop-at-smaller
 loop-at-smaller c =
-    (turning-goes-on c.loop-at.invariant (omega (arith, c.requires.at_in_bounds)) c.put_turn-end.ensures.upper_bound c.put_turn-end.auto.text c.Turned.ensures c.is_idle.ensures c.if-is_idle.false c.put_turn-end.ensures.put).1
+    (turning-goes-on c.loop-at.invariant (omega (arith, c.requires.at_in_bounds)) c.put_turn-end.ensures.upper_bound c.put_turn-end.auto.text c.turn-answer.ensures c.is_idle.ensures c.if-is_idle.false c.put_turn-end.ensures.put).1
 
 pub loop-at-preserved : goal.loop-at-preserved
 loop-at-preserved c =
-    (turning-goes-on c.loop-at.invariant (omega (arith, c.requires.at_in_bounds)) c.put_turn-end.ensures.upper_bound c.put_turn-end.auto.text c.Turned.ensures c.is_idle.ensures c.if-is_idle.false c.put_turn-end.ensures.put).0
+    (turning-goes-on c.loop-at.invariant (omega (arith, c.requires.at_in_bounds)) c.put_turn-end.ensures.upper_bound c.put_turn-end.auto.text c.turn-answer.ensures c.is_idle.ensures c.if-is_idle.false c.put_turn-end.ensures.put).0
 
 pub returns-then-is_idle : goal.returns-then-is_idle
 returns-then-is_idle c =
-    turning-ends c.loop-at.invariant (omega (arith, c.requires.at_in_bounds)) c.Turned.ensures c.is_idle.ensures c.if-is_idle.true c.put_turn-end.ensures.put
+    turning-ends c.loop-at.invariant (omega (arith, c.requires.at_in_bounds)) c.turn-answer.ensures c.is_idle.ensures c.if-is_idle.true c.put_turn-end.ensures.put
