@@ -1,7 +1,30 @@
 -- Answers as the numbers that the exported functions give, by what an answer gives (`Given` of the calls). That of an `Answer` is `answer_number` of the calls. The number of a refusal is none of another answer.
-use Rattle.std.specs.Prelude.{cond, List, ◌++◌, map, ℕ, ◌+◌, ◌*◌, eqb, ℤ, pos, nat_abs, length, get_or, drop}
+use Rattle.std.specs.Prelude.{cond, List, ◌++◌, map, ℕ, ◌+◌, ◌*◌, eqb, ℤ, pos, nat_abs, length, get_or, drop, Result, Ok, Err}
+use Rattle.model.specs.declared.Turn.{Turn}
+use Rattle.model.specs.declared.Standing as code
+use Rattle.model.specs.Answers.{Turned, Value, Standing, Packed, as_turn}
 use Rattle.model.specs.Tables.{Tables}
 use Rattle.model.specs.Calls.{Given, refused, given, turned_given, packed_given, answer_number, Reply, reply, PackageReply, TotalsReply, PlainReply, PackedReply, turn}
+
+-- ---- answers of the code, by what number a refusal has
+
+abbrev pub value_by : {R : Type 0} → (R → ℕ) → Result ℤ R → Value
+value_by number (Ok v) = Value.Is v
+value_by number (Err refusal) = Value.Refused (number refusal)
+
+abbrev pub standing_by : {R : Type 0} → (R → ℕ) → Result code.Standing R → Standing
+standing_by number (Ok standing) = Standing.At standing.status standing.withdrawn
+standing_by number (Err refusal) = Standing.Refused (number refusal)
+
+abbrev pub packed_by : {R : Type 0} → (R → ℕ) → Result ℕ R → Packed
+packed_by number (Ok size) = Packed.Length size
+packed_by number (Err refusal) = Packed.Refused (number refusal)
+
+abbrev pub turned_by : {R : Type 0} → (R → ℕ) → Result Turn R → Turned
+turned_by number (Ok turn) = as_turn turn
+turned_by number (Err refusal) = Turned.Refused (number refusal)
+
+-- ---- numbers
 
 -- the value, or 4,294,967,296 + the refusal
 abbrev pub value_number : Given → ℤ

@@ -7,11 +7,10 @@ ghost use Rattle.model.specs.Tables.{tables, with_cutoff};
 ghost use Rattle.model.specs.Calls.{reply, raise_cutoff};
 
 use closing::{close_blocks, close_columns};
-use cutoff_tests::refusal_of;
+use cutoff_refusal::cutoff_refusal;
 use dropping::drop_changes;
 use model::Refusal;
 use tables::Tables;
-use tables::form::fault;
 
 pub fn raise_cutoff(
     n: usize,
@@ -46,29 +45,26 @@ pub fn raise_cutoff(
         cutoff.new kept.new)
         ≡ raise_cutoff n T timestamp }
 {
-    fault(
-        n,
-        &Tables {
-            held,
-            timestamps,
-            order,
-            status,
-            withdrawn,
-            lengths,
-            programs,
-            reads,
-            writes,
-            sources,
-            seen,
-            targets,
-            written,
-            view,
-            versions,
-            cutoff,
-            kept,
-        },
-    )?;
-    refusal_of(timestamp, held, timestamps, order, status, cutoff)?;
+    let tables = Tables {
+        held,
+        timestamps,
+        order,
+        status,
+        withdrawn,
+        lengths,
+        programs,
+        reads,
+        writes,
+        sources,
+        seen,
+        targets,
+        written,
+        view,
+        versions,
+        cutoff,
+        kept,
+    };
+    cutoff_refusal(n, &tables, timestamp)?;
     let mut places = [0u16; 4096];
     let found = drop_changes(
         timestamp,

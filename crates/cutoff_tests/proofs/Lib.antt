@@ -1,2 +1,3 @@
+pub mod Refused
 pub mod Unsettled
 pub mod Model

@@ -1,7 +1,7 @@
 -- What a cutoff tests, as functions of the lent lists.
-use Rattle.std.specs.Prelude.{◌≡◌, Bool, false, List, [], ◌∷◌, ℕ, ltb, length, get_or}
+use Rattle.std.specs.Prelude.{◌≡◌, Bool, false, cond, List, [], ◌∷◌, ℕ, eqb, ltb, length, get_or}
 use Rattle.std.proofs.Math.Option.{Option, none, some}
-use Rattle.model.specs.Refusals.{Test, test, no_timestamp, below_cutoff}
+use Rattle.model.specs.Refusals.{Test, test, first_of, no_timestamp, below_cutoff}
 use Rattle.search.specs.Searches.{PlacesWithin, rank_of, waiting_of}
 
 -- does a change wait before a position, where the first that waits is found
@@ -17,6 +17,11 @@ cutoff_tests t held timestamps order status cutoff =
     ∷ below_cutoff (get_or cutoff 0 0) t
     ∷ test 15 (waits_before (waiting_of order status count) (rank_of order timestamps t count))
     ∷ []
+
+-- the first of them that applies, unless the tables have a fault
+unfoldable pub refusal_in : ℕ → ℕ → List ℕ → List ℕ → List ℕ → List ℕ → List ℕ → ℕ
+refusal_in fault t held timestamps order status cutoff =
+    cond (eqb fault 0) (first_of (cutoff_tests t held timestamps order status cutoff)) fault
 
 -- the tests can be made
 pub record Testable (held timestamps order status cutoff : List ℕ) : Type 0 where

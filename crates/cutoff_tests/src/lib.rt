@@ -3,16 +3,17 @@
 
 ghost use Rattle.std.specs.Prelude.{◌≡◌};
 ghost use Rattle.model.specs.Answers.{number_in};
-ghost use Rattle.model.specs.Refusals.{first_of};
-ghost use Rattle.cutoff_tests.specs.CutoffTests.{cutoff_tests, Testable};
+ghost use Rattle.cutoff_tests.specs.CutoffTests.{refusal_in, Testable};
 
 use model::Refusal;
 use search::{rank, waiting};
 use tables::held_count;
 use timestamps::is_timestamp;
 
-// The refusal of a cutoff: 4, 14 or 15, where one applies.
+// The refusal of a cutoff: that of the tables, if they have one, else 4, 14 or 15, where one applies.
+#[tactic(auto, unfolding(crate::specs::CutoffTests::refusal_in))]
 pub fn refusal_of(
+    fault: Result<(), Refusal>,
     timestamp: u64,
     held: &[u16],
     timestamps: &[u64],
@@ -20,10 +21,12 @@ pub fn refusal_of(
     status: &[u16],
     cutoff: &[u64],
 ) -> Result<(), Refusal>
-    requires { Testable held.now timestamps.now order.now status.now cutoff.now }
+    requires { number_in fault ≡ 0 → Testable held.now timestamps.now order.now status.now cutoff.now }
     ensures { number_in result
-        ≡ first_of (cutoff_tests timestamp held.now timestamps.now order.now status.now cutoff.now) }
+        ≡ refusal_in (number_in fault) timestamp held.now timestamps.now order.now
+        status.now cutoff.now }
 {
+    fault?;
     if !is_timestamp(timestamp) {
         return Err(Refusal::NoTimestamp);
     }

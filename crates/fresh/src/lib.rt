@@ -27,15 +27,17 @@ pub fn fill_start(values: &mut [i32])
     requires { length values.old ≡ 1024 }
     ensures { values.new ≡ all_settings start }
 {
-    values.copy_from_slice(&start_table());
+    fill_from(&start_table(), values);
 }
 
-// Every setting set to the value that a list has of it.
+// Every setting set to the value that a list has of it. The literal length lets the compiler copy whole vectors, and leave out what was set before.
 pub fn fill_from(from: &[i32], values: &mut [i32])
     requires { (length from.now ≡ 1024) × (length values.old ≡ 1024) }
     ensures { values.new ≡ from.now }
 {
-    values.copy_from_slice(from);
+    for i in 0..1024 {
+        values[i] = from[i];
+    }
 }
 
 // A program run by the rules of a version on some values, and its writes carried into them.

@@ -112,7 +112,12 @@ pub extern "C" fn tolbezun_program_run(
     if refusal != 0 {
         return refused_number(refusal);
     }
+    // They begin as the lent lists, so that none is set to 0 first, which would need `memset` from outside.
     let mut lists = Lists::new();
+    lists.sources.copy_from_slice(sources);
+    lists.seen.copy_from_slice(seen);
+    lists.targets.copy_from_slice(targets);
+    lists.written.copy_from_slice(written);
     let run = run_program(version, program, values, &mut lists);
     copy_first(run.reads, &lists.sources, sources);
     copy_first(run.reads, &lists.seen, seen);

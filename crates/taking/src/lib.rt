@@ -22,12 +22,14 @@ fn enter_next(position: usize, count: usize, order: &mut [u16])
     order[position] = count as u16;
 }
 
-// Bytes copied into a slice from a slot on.
+// Bytes copied into a slice from a slot on. One by one: `copy_from_slice` would need `memmove` from outside.
 fn copy_in(source: &[u8], at: usize, destination: &mut [u8])
     requires { at + length source.now ≤ length destination.old }
     ensures { destination.new ≡ copied source.now at destination.old }
 {
-    destination[at..at + source.len()].copy_from_slice(source);
+    for (i, byte) in source.iter().enumerate() {
+        destination[at + i] = *byte;
+    }
 }
 
 // A program taken in, on tables in form: stored at the next place, New, not withdrawn, its lists empty, as unused slots are already.

@@ -1,7 +1,7 @@
--- `fresh::fill_start` meets its contract: the table has every start value. Assumes nothing.
+-- The table has every start value.
 use Rattle.std.proofs.Common.{sym, ◌∙◌}
 use Rattle.model.proofs.Start.{all_start}
 use Rattle.fresh.proofs.fill_start.Goals as goal
 
 pub returns : goal.returns
-returns c = c.copy_from_slice.ensures.after ∙ c.start_table.ensures ∙ sym all_start
+returns c = c.fill_from.ensures ∙ c.start_table.ensures ∙ sym all_start
